@@ -1,1 +1,3 @@
 pub mod Choice
+pub mod Refusals
+pub mod Text

@@ -1,0 +1,34 @@
+// Lexis: from bytes to tokens. It promises that each token, and each refusal 2 to 6 with its place, is the one
+// that the definitions of specs/ give. The form of declarations stands above it, the ground below.
+use ground::Place;
+use ground::Refusal;
+
+// Where the reader stands, past what it has read.
+pub struct Reader {
+    pub next: Place,
+}
+
+// A token. Its sort says which fields count; the others are 0.
+pub struct Token {
+    pub sort: u8,
+    pub place: Place,
+    pub value: u32,
+    pub from: usize,
+    pub size: usize,
+    pub parts: u8,
+    pub offset: u32,
+    pub width: u32,
+    pub count: u32,
+}
+
+// A token together with the moved reader, or a refusal with its place.
+pub enum Step {
+    Took(Token, Reader),
+    Refused(Refusal),
+}
+
+// The text as a whole: sound, or a refusal 2, 3 or 4 with its place.
+pub enum Whole {
+    Sound,
+    Unsound(Refusal),
+}
