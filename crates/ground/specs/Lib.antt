@@ -1,1 +1,3 @@
 pub mod Choice
+pub mod Regions
+pub mod Writes

@@ -1,2 +1,3 @@
-// The words and laws that every crate above shares: choices by a test, lists at a place, regions of tables.
-// It promises laws only; nothing runs here. It stands on nothing.
+// The words and laws that every crate above shares: choices by a test, the rest of a text at a place, regions of
+// tables, writes into a lent list, the rule of a constant table.
+// It promises laws only; nothing runs here. It stands on nothing, and every other crate stands above it.
