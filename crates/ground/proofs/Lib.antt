@@ -1,1 +1,7 @@
+pub mod Bools
+pub mod Outcome
+pub mod Regions
+pub mod Rest
+pub mod Tables
 pub mod Tests
+pub mod Writes

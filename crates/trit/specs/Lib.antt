@@ -1,0 +1,4 @@
+pub mod Gates
+pub mod Mux
+pub mod Trit
+pub mod Wide
