@@ -11,7 +11,7 @@ use borrow.Author.Tests.{eq-eqb, ne-eqb, lt-ltb, le-ltb}
 use Rattle.ground.specs.Choice.{pick}
 use Rattle.ground.proofs.Bools.{bool-cases, never-both, or-left, or-false}
 use Rattle.graph.specs.Graph.{mem, ready, lowest, place, orderFrom, order}
-use Rattle.graph.specs.Placing.{None, Placing, done, step, pos, Once}
+use Rattle.graph.specs.Placing.{None, Placing, done, step, pos, Once, Before, Turn}
 use Rattle.graph.proofs.Ready.{mem-here, mem-there, mem-cases, place-same, place-other, ready-unplaced, ready-reads, placed-shut, Lowest, lowest-law}
 
 -- How many rows below n are not placed
@@ -57,18 +57,7 @@ pub record Ends (reads : ℕ → List ℕ) (n : ℕ) (P : ℕ → Bool) (L : Lis
   pub marks : ℕ → Bool
   pub run : Placing reads n P L marks
 
--- the rows told of a split of the order: r comes after the rows A
-pub record Turn (reads : ℕ → List ℕ) (n : ℕ) (P : ℕ → Bool) (A : List ℕ) (r : ℕ) : Type 0 where
-  pub below : r < n
-  pub unmarked : P r ≡ false
-  pub fresh : mem r A ≡ false
-  pub reads-before : (j : ℕ) → mem j (reads r) ≡ true → P j || mem j A ≡ true
-
--- row j stands in the list, before row i
-pub record Before (L : List ℕ) (j i : ℕ) : Type 0 where
-  pub among : mem j L ≡ true
-  pub earlier : pos L j < pos L i
-
+-- where a row stands
 module _ (r : ℕ) (L : List ℕ) (i : ℕ) where
   pub pos-here : i ≡ r → pos (r ∷ L) i ≡ 0
   unfolding pos
