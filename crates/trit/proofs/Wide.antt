@@ -59,6 +59,19 @@ unfolding notBits
 not-trits [] = tt
 not-trits (x ∷ xs) = (not-trit x, not-trits xs)
 
+pub not-at : (xs : List ℕ) (i : ℕ) → i < length xs → getD (notBits xs) i 0 ≡ notOf (getD xs i 0)
+unfolding notBits
+not-at [] i h = absurd (omega arith)
+not-at (x ∷ xs) zero h = refl
+not-at (x ∷ xs) (suc i) h = not-at xs i (omega arith)
+
+pub pairs-at : (f : ℕ → ℕ → ℕ) (xs ys : List ℕ) (i : ℕ) → i < length xs → i < length ys → getD (pairs f xs ys) i 0 ≡ f (getD xs i 0) (getD ys i 0)
+unfolding pairs
+pairs-at f [] ys i h k = absurd (omega arith)
+pairs-at f (x ∷ xs) [] i h k = absurd (omega arith)
+pairs-at f (x ∷ xs) (y ∷ ys) zero h k = refl
+pairs-at f (x ∷ xs) (y ∷ ys) (suc i) h k = pairs-at f xs ys i (omega arith) (omega arith)
+
 pub pairs-length : (f : ℕ → ℕ → ℕ) (xs ys : List ℕ) → length xs ≡ length ys → length (pairs f xs ys) ≡ length xs
 unfolding pairs
 pairs-length f [] ys e = refl

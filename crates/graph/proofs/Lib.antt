@@ -1,0 +1,5 @@
+pub mod Cases
+pub mod Order
+pub mod Pigeon
+pub mod Ready
+pub mod Ring
