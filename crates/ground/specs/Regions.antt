@@ -23,6 +23,10 @@ fits (x ∷ xs) (y ∷ t) = elim (eqb x y) [ true ↦ fits xs t | false ↦ fals
 unfoldable pub pad : ℕ → List ℕ → List ℕ
 pad n xs = xs ++ zeros (n - length xs)
 
+-- Document 01, Room: "of a longer one only that much counts, the rest staying unchanged": n new words, then what was there
+unfoldable pub over : ℕ → List ℕ → List ℕ → List ℕ
+over n new old = new ++ drop n old
+
 -- n elements of a pool, from s on
 unfoldable pub part : {A : Type 0} → ℕ → ℕ → List A → List A
 part s n p = take n (drop s p)

@@ -1,12 +1,12 @@
 -- All that a caller sees after a read: the answer, and every word and byte lent.
 use Prim.Native.Nat.{ℕ}
 use mathlib.Core.Bool.{Bool, true, false, _||_}
-use mathlib.Core.List.{List, _++_}
+use mathlib.Core.List.{List}
 use lib.Dec.{ltb}
-use lib.ListN.{length, drop}
+use lib.ListN.{length}
 use Rattle.ground.specs.Choice.{pick}
 use Rattle.ground.specs.Refusals.{at, refusal}
-use Rattle.ground.specs.Regions.{zeros}
+use Rattle.ground.specs.Regions.{zeros, over}
 use Rattle.netlist.specs.Tables.{Tables, layout, rowsOf, bitsOf, rowsLength, stringsLength, bitsLength}
 use Rattle.netlist.specs.Good.{short}
 use Rattle.reading.specs.Reading.{Reading, says, refused, reading}
@@ -26,10 +26,6 @@ pub record Outcome : Type 0 where
 
 abbrev pub made : Read → List ℕ → List ℕ → List ℕ → List ℕ → Outcome
 made answer rows strings bits work = record { answer = answer; rows = rows; strings = strings; bits = bits; work = work }
-
--- Document 01, Room: "of a longer one only that much counts, the rest staying unchanged"
-abbrev pub over : ℕ → List ℕ → List ℕ → List ℕ
-over n new old = new ++ drop n old
 
 abbrev cleared : ℕ → List ℕ → List ℕ
 cleared n old = over n (zeros n) old

@@ -1,0 +1,84 @@
+-- The canonical text. Document 01, Canonical text: "Metadata, then I/O, then cells, one line each".
+use Prim.Native.Nat.{ℕ, _+_, _-_}
+use mathlib.Core.Bool.{Bool, true, false, _&&_}
+use mathlib.Core.List.{List, [], _∷_, _++_}
+use lib.Dec.{leb, eqb}
+use lib.ListN.{length}
+use Rattle.ground.specs.Choice.{pick}
+use Rattle.kinds.specs.Kinds.{kindAt}
+use Rattle.netlist.specs.Netlist.{Run, Meta, Io, Cell, Netlist, setMeta, sourceMeta, scopeMeta, indexedMeta, identMeta, bitsMeta, integerMeta}
+use Rattle.netlist.specs.Rules.{widthsOf}
+use Rattle.printing.specs.Words.{text, number, hash, quoted, trits, reference, references, operand}
+
+-- METADATA: "numbered 0, 1, .."
+unfoldable pub option : List ℕ → ℕ → List ℕ → List ℕ
+option word r k = pick (eqb r 0) k (word ++ reference r k)
+
+-- `(#<line> #<column>)`
+unfoldable pub point : ℕ → ℕ → List ℕ → List ℕ
+point line column k = 40 ∷ hash line (32 ∷ hash column (41 ∷ k))
+
+-- `scope` with its name or index, and the options
+abbrev pub scopeLine : Meta → List ℕ → List ℕ
+scopeLine m k = option (text " in=" []) (m .inside) (option (text " src=" []) (m .source) k)
+
+abbrev pub metaBody : Meta → List ℕ → List ℕ
+metaBody m k =
+    pick (eqb (m .kind) setMeta) (123 ∷ references (m .members) (125 ∷ k))
+    (pick (eqb (m .kind) sourceMeta) (text "source " (quoted (m .name) (32 ∷ point (m .line) (m .column) (32 ∷ point (m .endLine) (m .endColumn) k))))
+    (pick (eqb (m .kind) scopeMeta) (text "scope " (quoted (m .name) (scopeLine m k)))
+    (pick (eqb (m .kind) indexedMeta) (text "scope " (hash (m .number) (scopeLine m k)))
+    (pick (eqb (m .kind) identMeta) (text "ident " (quoted (m .name) (text " in=" (reference (m .inside) k))))
+    (text "attr " (quoted (m .name) (32 ∷
+    pick (eqb (m .kind) bitsMeta) (trits (m .bits) k)
+    (pick (eqb (m .kind) integerMeta) (hash (m .number) k)
+    (quoted (m .text) k)))))))))
+
+unfoldable pub metaLines : ℕ → List Meta → List ℕ → List ℕ
+metaLines row [] k = k
+metaLines row (m ∷ ms) k = 33 ∷ number row (text " = " (metaBody m (10 ∷ metaLines (row + 1) ms k)))
+
+-- I/O
+unfoldable pub ioLines : List Io → List ℕ → List ℕ
+ioLines [] k = k
+ioLines (i ∷ is) k = 38 ∷ quoted (i .name) (58 ∷ number (i .width) (text " = io" (10 ∷ ioLines is k)))
+
+-- CELLS: "a cell's number is the sum over earlier cells of the greater of 1 and its width"
+unfoldable pub numbersFrom : ℕ → List Cell → List ℕ
+numbersFrom n [] = []
+numbersFrom n (c ∷ cs) = n ∷ numbersFrom (n + pick (eqb (c .width) 0) 1 (c .width)) cs
+
+-- what a kind does not have is not printed
+unfoldable pub nameIf : Bool → List ℕ → List ℕ → List ℕ
+nameIf given name k = pick given (32 ∷ quoted name k) k
+
+unfoldable pub operandIf : Bool → List ℕ → List ℕ → List Run → List ℕ → List ℕ
+operandIf given numbers widths rs k = pick given (32 ∷ operand numbers widths rs k) k
+
+-- "declarations always have `:w`"
+unfoldable pub cellLine : List ℕ → List ℕ → ℕ → Cell → List ℕ → List ℕ
+cellLine numbers widths n c k =
+    let kind = kindAt (c .kind) in
+    37 ∷ number n (58 ∷ number (c .width) (text " = " (text (kind .word)
+    (nameIf (kind .named) (c .name)
+    (operandIf (leb 1 (kind .operands)) numbers widths (c .a)
+    (operandIf (leb 2 (kind .operands)) numbers widths (c .b)
+    (operandIf (leb 3 (kind .operands)) numbers widths (c .c)
+    (option (32 ∷ []) (c .meta) (10 ∷ k)))))))))
+
+unfoldable pub cellLines : List ℕ → List ℕ → List ℕ → List Cell → List ℕ
+cellLines numbers widths [] cs = []
+cellLines numbers widths (n ∷ ns) [] = []
+cellLines numbers widths (n ∷ ns) (c ∷ cs) = cellLine numbers widths n c (cellLines numbers widths ns cs)
+
+-- THE CANONICAL TEXT. "No declarations: one LF."
+abbrev pub isBare : Netlist → Bool
+isBare N = eqb (length (N .metas)) 0 && (eqb (length (N .ios)) 0 && eqb (length (N .cells)) 0)
+
+unfoldable pub lines : Netlist → List ℕ
+lines N =
+    metaLines 0 (N .metas) (ioLines (N .ios)
+    (cellLines (numbersFrom 0 (N .cells)) (widthsOf (N .cells)) (numbersFrom 0 (N .cells)) (N .cells)))
+
+unfoldable pub canonical : Netlist → List ℕ
+canonical N = pick (isBare N) (10 ∷ []) (lines N)
