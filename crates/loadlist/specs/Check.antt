@@ -1,0 +1,51 @@
+-- The check of a load list. 22: "load list malformed", at the first bad record. Document 01, Load list: "A part of a record is a bad
+-- one; a record's place is its first byte."
+use Prim.Native.Nat.{ℕ, zero, suc, _+_, _*_, _/_}
+use mathlib.Core.Bool.{Bool, true, false, _&&_}
+use mathlib.Core.List.{List, [], _∷_}
+use mathlib.Core.Option.{Option, none, some}
+use lib.Dec.{leb, ltb, eqb}
+use lib.ListN.{length, getD, take, drop}
+use Rattle.ground.specs.Choice.{pick}
+use Rattle.loadlist.specs.Records.{recordIn, inputOp, notOp, outputOp}
+use Rattle.loadlist.specs.declared.Record.{Record}
+
+-- "mark 47 53, operation, 0"
+abbrev pub marked : List ℕ → Bool
+marked s = eqb (getD s 0 0) 0x47 && (eqb (getD s 1 0) 0x53 && eqb (getD s 3 0) 0)
+
+abbrev pub isWhole : List ℕ → Bool
+isWhole s = eqb (length (take 8 s)) 8
+
+-- "Unused fields are 0. Slots named are earlier ones; inputs are numbered 0, 1, .. in order, outputs too". Record k, with so many
+-- input and output records before it.
+abbrev pub firstFits : Record → ℕ → ℕ → Bool
+firstFits r k inputs = pick (ltb (r .op) inputOp) (eqb (r .first) 0) (pick (eqb (r .op) inputOp) (eqb (r .first) inputs) (ltb (r .first) k))
+
+abbrev pub secondFits : Record → ℕ → ℕ → Bool
+secondFits r k outputs = pick (leb (r .op) notOp) (eqb (r .second) 0) (pick (eqb (r .op) outputOp) (eqb (r .second) outputs) (ltb (r .second) k))
+
+-- "at most 8,192 records"
+unfoldable pub goodRecord : List ℕ → ℕ → ℕ → ℕ → Bool
+goodRecord s k inputs outputs =
+    ltb k 8192 && (isWhole s && (marked s && (leb (recordIn s .op) 8
+    && (firstFits (recordIn s) k inputs && secondFits (recordIn s) k outputs))))
+
+-- one more where the record has the operation
+abbrev pub counted : ℕ → Record → ℕ → ℕ
+counted op r n = n + pick (eqb (r .op) op) 1 0
+
+-- the place of the first bad record among the next n, from record k on
+unfoldable pub badFrom : ℕ → List ℕ → ℕ → ℕ → ℕ → Option ℕ
+badFrom zero s k inputs outputs = none
+badFrom (suc n) s k inputs outputs = elim (goodRecord s k inputs outputs) [
+  | true ↦ badFrom n (drop 8 s) (k + 1) (counted inputOp (recordIn s) inputs) (counted outputOp (recordIn s) outputs)
+  | false ↦ some (8 * k)
+]
+
+-- records, a part of one counted
+abbrev pub recordCount : List ℕ → ℕ
+recordCount s = (length s + 7) / 8
+
+unfoldable pub badRecord : List ℕ → Option ℕ
+badRecord s = badFrom (recordCount s) s 0 0 0
