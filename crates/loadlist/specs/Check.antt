@@ -36,10 +36,10 @@ abbrev pub counted : ℕ → Record → ℕ → ℕ
 counted op r n = n + pick (eqb (r .op) op) 1 0
 
 -- the place of the first bad record among the next n, from record k on
-unfoldable pub badFrom : ℕ → List ℕ → ℕ → ℕ → ℕ → Option ℕ
-badFrom zero s k inputs outputs = none
-badFrom (suc n) s k inputs outputs = elim (goodRecord s k inputs outputs) [
-  | true ↦ badFrom n (drop 8 s) (k + 1) (counted inputOp (recordIn s) inputs) (counted outputOp (recordIn s) outputs)
+unfoldable pub badRecordFrom : ℕ → List ℕ → ℕ → ℕ → ℕ → Option ℕ
+badRecordFrom zero s k inputs outputs = none
+badRecordFrom (suc n) s k inputs outputs = elim (goodRecord s k inputs outputs) [
+  | true ↦ badRecordFrom n (drop 8 s) (k + 1) (counted inputOp (recordIn s) inputs) (counted outputOp (recordIn s) outputs)
   | false ↦ some (8 * k)
 ]
 
@@ -48,4 +48,4 @@ abbrev pub recordCount : List ℕ → ℕ
 recordCount s = (length s + 7) / 8
 
 unfoldable pub badRecord : List ℕ → Option ℕ
-badRecord s = badFrom (recordCount s) s 0 0 0
+badRecord s = badRecordFrom (recordCount s) s 0 0 0

@@ -33,10 +33,10 @@ slotsFrom [] ins slots = slots
 slotsFrom (r ∷ rs) ins slots = slotsFrom rs ins (slots ++ (slotOf r ins slots ∷ []))
 
 -- the slots of the output records, in order
-unfoldable pub outputsFrom : List Record → List ℕ → List ℕ
-outputsFrom [] slots = []
-outputsFrom (r ∷ rs) [] = []
-outputsFrom (r ∷ rs) (x ∷ slots) = elim (eqb (r .op) outputOp) [ true ↦ x ∷ outputsFrom rs slots | false ↦ outputsFrom rs slots ]
+unfoldable pub outputsIn : List Record → List ℕ → List ℕ
+outputsIn [] slots = []
+outputsIn (r ∷ rs) [] = []
+outputsIn (r ∷ rs) (x ∷ slots) = elim (eqb (r .op) outputOp) [ true ↦ x ∷ outputsIn rs slots | false ↦ outputsIn rs slots ]
 
 abbrev pub listOf : List ℕ → List Record
 listOf list = recordsIn (recordCount list) list
@@ -45,7 +45,7 @@ abbrev pub slots : List ℕ → List ℕ → List ℕ
 slots list ins = slotsFrom (listOf list) ins []
 
 abbrev pub outputs : List ℕ → List ℕ → List ℕ
-outputs list ins = outputsFrom (listOf list) (slots list ins)
+outputs list ins = outputsIn (listOf list) (slots list ins)
 
 abbrev pub recordsWith : ℕ → List Record → ℕ
 recordsWith op rs = total (λ r. pick (eqb (r .op) op) 1 0) rs

@@ -49,21 +49,21 @@ numbersFrom n [] = []
 numbersFrom n (c ∷ cs) = n ∷ numbersFrom (n + pick (eqb (c .width) 0) 1 (c .width)) cs
 
 -- what a kind does not have is not printed
-unfoldable pub nameIf : Bool → List ℕ → List ℕ → List ℕ
-nameIf given name k = pick given (32 ∷ quoted name k) k
+unfoldable pub nameText : Bool → List ℕ → List ℕ → List ℕ
+nameText given name k = pick given (32 ∷ quoted name k) k
 
-unfoldable pub operandIf : Bool → List ℕ → List ℕ → List Run → List ℕ → List ℕ
-operandIf given numbers widths rs k = pick given (32 ∷ operand numbers widths rs k) k
+unfoldable pub operandText : Bool → List ℕ → List ℕ → List Run → List ℕ → List ℕ
+operandText given numbers widths rs k = pick given (32 ∷ operand numbers widths rs k) k
 
 -- "declarations always have `:w`"
 unfoldable pub cellLine : List ℕ → List ℕ → ℕ → Cell → List ℕ → List ℕ
 cellLine numbers widths n c k =
     let kind = kindAt (c .kind) in
     37 ∷ number n (58 ∷ number (c .width) (text " = " (text (kind .word)
-    (nameIf (kind .named) (c .name)
-    (operandIf (leb 1 (kind .operands)) numbers widths (c .a)
-    (operandIf (leb 2 (kind .operands)) numbers widths (c .b)
-    (operandIf (leb 3 (kind .operands)) numbers widths (c .c)
+    (nameText (kind .named) (c .name)
+    (operandText (leb 1 (kind .operands)) numbers widths (c .a)
+    (operandText (leb 2 (kind .operands)) numbers widths (c .b)
+    (operandText (leb 3 (kind .operands)) numbers widths (c .c)
     (option (32 ∷ []) (c .meta) (10 ∷ k)))))))))
 
 unfoldable pub cellLines : List ℕ → List ℕ → List ℕ → List Cell → List ℕ

@@ -1,0 +1,52 @@
+-- The lines between yes and no, computed: one statement over a single list; and the refusals, the same way.
+use Prim.Native.Nat.{ℕ}
+use mathlib.Core.Path.{_≡_, refl}
+use mathlib.Core.List.{List, map, _++_}
+use Rattle.ground.specs.Lists.{every, total, joined, upFrom, updated}
+use Rattle.ground.specs.Regions.{zeros, blank, fits, pad, over, part}
+use Rattle.ground.specs.Text.{bytes, same}
+use Rattle.trit.specs.Trit.{notOf, andOf, orOf, xorOf, holds, countOf, carryOf}
+use Rattle.trit.specs.Wide.{notBits, pairs, adcBits, clash, agree, someClash, allAgree, eqBit, ultFrom, ultBit, sltFrom, sltBit}
+use Rattle.trit.specs.Mux.{muxBits}
+use Rattle.graph.specs.Graph.{mem, allPlaced, ready, lowestFrom, lowest, place, orderFrom, order, some, leftOut}
+use Rattle.kinds.specs.Kinds.{kindAt}
+use Rattle.lexis.specs.Bytes.{classFrom, classOf}
+use Rattle.lexis.specs.Whole.{tailOf, badFrom, endsInFeed, wholeOf}
+use Rattle.lexis.specs.Pieces.{spanEnd, commentEnd, insideEnd, digitsFrom, suffixAt, stringFrom}
+use Rattle.lexis.specs.Tokens.{metaOf, numberOf, constantOf, cellOf, ioOf, wordOf, longOf, follows, tokenFrom, tokenAt, insideAt}
+use Rattle.form.specs.Words.{numbered}
+use Rattle.form.specs.Parts.{concatFrom, operandAt, partsFrom, partsAt, setFrom, membersFrom}
+use Rattle.form.specs.Forms.{setForm, sourceForm, optionAt, scopeForm, identForm, attrForm, metaForm, ioForm, operandIf, metaIf, wiringForm, namedForm, cellForm, bodyForm, openForm, formAt}
+use Rattle.netlist.specs.Runs.{falling, knownBits, cut, longest}
+use Rattle.netlist.specs.Rules.{taken, distinct, namesAs, roomy, metasSound, valid}
+use Rattle.netlist.specs.Good.{laid, good, short, checkOf, ioFrom, lookupOf}
+use Rattle.reading.specs.Values.{rowFrom, copies, operandRuns, operandPieces}
+use Rattle.reading.specs.Rules.{added, firstMisnamed, lastMeta, ruledOut}
+use Rattle.reading.specs.Reading.{declarationsFrom, firstUnresolved, netlistOf, readSound, reading}
+use Rattle.printing.specs.Decimal.{digits, places, signed}
+use Rattle.printing.specs.Words.{text, number, hash, escaped, quoted, trits, reference, offset, width, runs, references}
+use Rattle.printing.specs.Lines.{option, point, metaLines, ioLines, numbersFrom, nameText, operandText, cellLine, cellLines, lines, canonical}
+use Rattle.loadlist.specs.Records.{recordsIn}
+use Rattle.loadlist.specs.Check.{goodRecord, badRecordFrom, badRecord}
+use Rattle.loadlist.specs.Run.{slotsFrom, outputsIn, runOf}
+use Rattle.cells.specs.Operands.{cellReads, bitsFrom}
+use Rattle.cells.specs.Values.{kindValue, cellValue}
+use Rattle.cells.specs.Records.{notMade, gateMade, muxFrom, muxMade, adcMade, eqFrom, eqMade, ultMade, sltMade, kindMade}
+use Rattle.placing.specs.Placing.{outputsFrom, placingOf, ringed}
+use Rattle.evaluating.specs.Evaluation.{valuesFrom, assigned, evaluation}
+use Rattle.translating.specs.Translation.{inputRecords, inputSlots, cellRecords, cellSlots, outputRecords, translation, recordSum}
+use Rattle.promises.specs.Asking.{Line, answerTo}
+use Rattle.printing.specs.Outcome as print
+use Rattle.naming.specs.Names as name
+use Rattle.promises.specs.Lines.{markedLines, otherLines}
+use Rattle.promises.specs.Refusals.{refusals}
+
+-- THE LINES MARKED P hold of the definitions
+pub lines-hold : map (λ (l : Line). answerTo (l .ask)) markedLines ≡ map (λ (l : Line). l .answer) markedLines
+unfolding every total joined upFrom updated zeros blank fits pad over part bytes same notOf andOf orOf xorOf holds countOf carryOf notBits pairs adcBits clash agree someClash allAgree eqBit ultFrom ultBit sltFrom sltBit muxBits mem allPlaced ready lowestFrom lowest place orderFrom order some leftOut kindAt classFrom classOf tailOf badFrom endsInFeed wholeOf spanEnd commentEnd insideEnd digitsFrom suffixAt stringFrom metaOf numberOf constantOf cellOf ioOf wordOf longOf follows tokenFrom tokenAt insideAt numbered concatFrom operandAt partsFrom partsAt setFrom membersFrom setForm sourceForm optionAt scopeForm identForm attrForm metaForm ioForm operandIf metaIf wiringForm namedForm cellForm bodyForm openForm formAt falling knownBits cut longest taken distinct namesAs roomy metasSound valid laid good short checkOf ioFrom lookupOf rowFrom copies operandRuns operandPieces added firstMisnamed lastMeta ruledOut declarationsFrom firstUnresolved netlistOf readSound reading digits places signed text number hash escaped quoted trits reference offset width runs references option point metaLines ioLines numbersFrom nameText operandText cellLine cellLines lines canonical recordsIn goodRecord badRecordFrom badRecord slotsFrom outputsIn runOf cellReads bitsFrom kindValue cellValue notMade gateMade muxFrom muxMade adcMade eqFrom eqMade ultMade sltMade kindMade outputsFrom placingOf ringed valuesFrom assigned evaluation inputRecords inputSlots cellRecords cellSlots outputRecords translation recordSum answerTo print.written name.written name.nameFrom
+lines-hold = refl
+
+-- so do the other lines, and a case for each refusal number
+pub refusals-hold : map (λ (l : Line). answerTo (l .ask)) (otherLines ++ refusals) ≡ map (λ (l : Line). l .answer) (otherLines ++ refusals)
+unfolding every total joined upFrom updated zeros blank fits pad over part bytes same notOf andOf orOf xorOf holds countOf carryOf notBits pairs adcBits clash agree someClash allAgree eqBit ultFrom ultBit sltFrom sltBit muxBits mem allPlaced ready lowestFrom lowest place orderFrom order some leftOut kindAt classFrom classOf tailOf badFrom endsInFeed wholeOf spanEnd commentEnd insideEnd digitsFrom suffixAt stringFrom metaOf numberOf constantOf cellOf ioOf wordOf longOf follows tokenFrom tokenAt insideAt numbered concatFrom operandAt partsFrom partsAt setFrom membersFrom setForm sourceForm optionAt scopeForm identForm attrForm metaForm ioForm operandIf metaIf wiringForm namedForm cellForm bodyForm openForm formAt falling knownBits cut longest taken distinct namesAs roomy metasSound valid laid good short checkOf ioFrom lookupOf rowFrom copies operandRuns operandPieces added firstMisnamed lastMeta ruledOut declarationsFrom firstUnresolved netlistOf readSound reading digits places signed text number hash escaped quoted trits reference offset width runs references option point metaLines ioLines numbersFrom nameText operandText cellLine cellLines lines canonical recordsIn goodRecord badRecordFrom badRecord slotsFrom outputsIn runOf cellReads bitsFrom kindValue cellValue notMade gateMade muxFrom muxMade adcMade eqFrom eqMade ultMade sltMade kindMade outputsFrom placingOf ringed valuesFrom assigned evaluation inputRecords inputSlots cellRecords cellSlots outputRecords translation recordSum answerTo print.written name.written name.nameFrom
+refusals-hold = refl
