@@ -60,9 +60,9 @@ concatFrom zero text n k = measured.Refused (refusal 7 (at k))
 concatFrom (suc f) text n k = elim (insideAt text k) [
   | step.Refused g ↦ measured.Refused g
   | step.Took t r ↦ elim (isPart t) [
-      | true ↦ concatFrom f text (n + partWidth (partOf t)) (r .next .at)
-      | false ↦ pick (isMark 93 t) (measured.Closed n r) (measured.Refused (refusal (refusedPart t) (t .place)))
-    ]
+    | true ↦ concatFrom f text (n + partWidth (partOf t)) (r .next .at)
+    | false ↦ pick (isMark 93 t) (measured.Closed n r) (measured.Refused (refusal (refusedPart t) (t .place)))
+  ]
 ]
 
 -- each part takes a byte at least
@@ -100,9 +100,9 @@ partsFrom zero text k = []
 partsFrom (suc f) text k = elim (insideAt text k) [
   | step.Refused g ↦ []
   | step.Took t r ↦ elim (isPart t) [
-      | true ↦ record { part = partOf t; place = t .place } ∷ partsFrom f text (r .next .at)
-      | false ↦ []
-    ]
+    | true ↦ record { part = partOf t; place = t .place } ∷ partsFrom f text (r .next .at)
+    | false ↦ []
+  ]
 ]
 
 abbrev partsOf : List ℕ → Step → List PartAt
@@ -127,9 +127,9 @@ setFrom zero text n k = measured.Refused (refusal 7 (at k))
 setFrom (suc f) text n k = elim (insideAt text k) [
   | step.Refused g ↦ measured.Refused g
   | step.Took t r ↦ elim (isSort meta t) [
-      | true ↦ setFrom f text (n + 1) (r .next .at)
-      | false ↦ pick (isMark 125 t) (measured.Closed n r) (measured.Refused (refusal 7 (t .place)))
-    ]
+    | true ↦ setFrom f text (n + 1) (r .next .at)
+    | false ↦ pick (isMark 125 t) (measured.Closed n r) (measured.Refused (refusal 7 (t .place)))
+  ]
 ]
 
 abbrev pub setAt : List ℕ → ℕ → Measured

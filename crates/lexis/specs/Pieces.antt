@@ -74,12 +74,12 @@ stringFrom (b ∷ s) (suc skip) k = stringFrom s skip (k + 1)
 stringFrom (b ∷ s) zero k = elim (eqb b 34) [
   | true ↦ whole [] (k + 1)
   | false ↦ elim (eqb b 92) [
-      | true ↦ elim (isHex (getD s 0 0) && isHex (getD s 1 0)) [
-          | true ↦ prefixed (hexOf (getD s 0 0) * 16 + hexOf (getD s 1 0)) (stringFrom s 2 (k + 1))
-          | false ↦ broken
-        ]
-      | false ↦ elim (isRaw b) [ true ↦ prefixed b (stringFrom s 0 (k + 1)) | false ↦ broken ]
+    | true ↦ elim (isHex (getD s 0 0) && isHex (getD s 1 0)) [
+      | true ↦ prefixed (hexOf (getD s 0 0) * 16 + hexOf (getD s 1 0)) (stringFrom s 2 (k + 1))
+      | false ↦ broken
     ]
+    | false ↦ elim (isRaw b) [ true ↦ prefixed b (stringFrom s 0 (k + 1)) | false ↦ broken ]
+  ]
 ]
 
 -- the string whose first byte behind the opening `"` stands at the place k

@@ -33,9 +33,9 @@ declarationsFrom (suc f) text k so = elim (formAt text k) [
   | form.Refused g ↦ stopped g
   | form.End ↦ all so
   | form.Took d r ↦ elim (ruledOut text so d) [
-      | some g ↦ stopped g
-      | none ↦ declarationsFrom f text (r .next .at) (added text so (d .index) (d .decl))
-    ]
+    | some g ↦ stopped g
+    | none ↦ declarationsFrom f text (r .next .at) (added text so (d .index) (d .decl))
+  ]
 ]
 
 -- RULE 14: "piece doesn't resolve", "also for w = 0 or a repetition by 0"
