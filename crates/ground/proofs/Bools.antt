@@ -2,7 +2,11 @@
 use mathlib.Core.Path.{_≡_, refl}
 use mathlib.Core.Bool.{Bool, true, false, true≢false, not, _&&_, _||_}
 use mathlib.Core.Logic.{_⊎_, inl, inr}
+use mathlib.Core.List.{List, [], _∷_}
+use Prim.Native.Nat.{ℕ, zero, suc}
 use lib.Dec.{T}
+use lib.ListN.{getD}
+use Rattle.ground.specs.Lists.{allOf}
 
 -- a proof by the two values of a test, each with what it tells
 pub bool-cases : {P : Type 0} (b : Bool) → (b ≡ true → P) → (b ≡ false → P) → P
@@ -53,3 +57,22 @@ and-first false b t = t
 pub and-second : (a b : Bool) → T (a && b) → T b
 and-second true b t = t
 and-second false b t = absurd t
+
+-- one of facts that all hold, by its place
+pub fact : (bs : List Bool) → allOf bs ≡ true → (k : ℕ) → getD bs k true ≡ true
+unfolding allOf
+fact [] h k = refl
+fact (true ∷ bs) h zero = refl
+fact (true ∷ bs) h (suc k) = fact bs h k
+fact (false ∷ bs) h k = never-both h refl
+
+-- a fact more
+pub facts : (b : Bool) (bs : List Bool) → b ≡ true → allOf bs ≡ true → allOf (b ∷ bs) ≡ true
+unfolding allOf
+facts true bs p q = q
+facts false bs p q = p
+
+pub fact-fails : (b : Bool) (bs : List Bool) → b ≡ false → allOf (b ∷ bs) ≡ false
+unfolding allOf
+fact-fails true bs p = never-both refl p
+fact-fails false bs p = refl

@@ -9,6 +9,11 @@ unfoldable pub every : {A : Type 0} → (A → Bool) → List A → Bool
 every p [] = true
 every p (x ∷ xs) = elim (p x) [ true ↦ every p xs | false ↦ false ]
 
+-- each of the facts holds
+unfoldable pub allOf : List Bool → Bool
+allOf [] = true
+allOf (b ∷ bs) = elim b [ true ↦ allOf bs | false ↦ false ]
+
 unfoldable pub total : {A : Type 0} → (A → ℕ) → List A → ℕ
 total f [] = 0
 total f (x ∷ xs) = f x + total f xs

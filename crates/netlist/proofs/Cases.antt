@@ -4,7 +4,7 @@ use mathlib.Core.Path.{_≡_, refl}
 use mathlib.Core.Bool.{Bool, true, false}
 use mathlib.Core.List.{List, [], _∷_, _++_, map}
 use lib.ListN.{replicate}
-use Rattle.ground.specs.Lists.{every, total, joined}
+use Rattle.ground.specs.Lists.{every, allOf, total, joined}
 use Rattle.ground.specs.Regions.{zeros, blank, fits, pad, part}
 use Rattle.ground.specs.Text.{bytes, same}
 use Rattle.kinds.specs.Kinds.{kindAt}
@@ -94,7 +94,7 @@ judgements =
     ∷ []
 
 judged-right : map (λ (j : Judged). valid (j .netlist)) judgements ≡ map (λ (j : Judged). j .valid) judgements
-unfolding judgements meta metas cell netlist whole every total joined bytes same kindAt longest taken distinct namesAs roomy metasSound valid
+unfolding judgements meta metas cell netlist whole every allOf total joined bytes same kindAt longest taken distinct namesAs roomy metasSound valid
 judged-right = refl
 
 -- the tables of a netlist show it again, through slices of their full lengths; and they are good
@@ -107,5 +107,5 @@ unfolding lent meta metas cell netlist whole joined bytes zeros pad part metaRow
 shown = refl
 
 held : good lent ≡ true
-unfolding lent meta metas cell netlist whole every total joined bytes same kindAt longest taken distinct namesAs roomy metasSound valid zeros blank fits pad part metaRows ioRows cellRows runRows layout rowsOf bitsOf tablesIn metasIn iosIn runsIn cellsIn view laid good
+unfolding lent meta metas cell netlist whole every allOf total joined bytes same kindAt longest taken distinct namesAs roomy metasSound valid zeros blank fits pad part metaRows ioRows cellRows runRows layout rowsOf bitsOf tablesIn metasIn iosIn runsIn cellsIn view laid good
 held = refl

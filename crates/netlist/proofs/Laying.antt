@@ -9,12 +9,12 @@ use lib.Dec.{leb}
 use lib.ListN.{length, drop, take, length-append, length-take, length-drop}
 use lib.Seq.{drop-append-seam}
 use borrow.Author.Tests.{leb-true}
-use Rattle.ground.specs.Lists.{every, total, joined}
+use Rattle.ground.specs.Lists.{every, allOf, total, joined}
 use Rattle.ground.specs.Regions.{part, pad, zeros, fits}
-use Rattle.ground.proofs.Bools.{and-true, true-and}
+use Rattle.ground.proofs.Bools.{and-true, fact}
 use Rattle.ground.proofs.Regions.{fits-pad, fits-at, part-length, length-pad, part-front, part-next}
 use Rattle.netlist.specs.Netlist.{Run, Meta, Io, Cell, Netlist, metaStrings, stringsOf, membersOf, attrBitsOf, runsOf, runBitsOf}
-use Rattle.netlist.specs.Rules.{shortString, outputBits, roomy, valid}
+use Rattle.netlist.specs.Rules.{shortString, outputBits, roomy, metasSound, cellSound, widthsOf, valid}
 use Rattle.netlist.specs.Tables.{Tables, metaRows, ioRows, cellRows, runRows, ioStart, cellStart, layout, tablesIn, rowsOf, bitsOf}
 use Rattle.netlist.specs.View.{metasIn, iosIn, runsIn, cellsIn, poolIn, view}
 use Rattle.netlist.specs.Good.{laid, good}
@@ -37,33 +37,31 @@ pub record Roomy (N : Netlist) : Type 0 where
 pub roomy-is : (N : Netlist) → roomy N ≡ true → Roomy N
 unfolding roomy
 roomy-is N h =
-    let a = and-true _ _ h in
-    let b = and-true _ _ (a .1) in
-    let c = and-true _ _ (b .1) in
-    let d = and-true _ _ (c .1) in
-    let e = and-true _ _ (d .1) in
-    let f = and-true _ _ (e .1) in
-    let g = and-true _ _ (f .1) in
-    let i = and-true _ _ (g .1) in
-    let j = and-true _ _ (i .1) in
-    let k = and-true _ _ (j .1) in
     record {
-      cells = leb-true _ _ (a .0);
-      bits = leb-true _ _ (b .0);
-      outputs = leb-true _ _ (c .0);
-      runs = leb-true _ _ (d .0);
-      metas = leb-true _ _ (e .0);
-      members = leb-true _ _ (f .0);
-      ios = leb-true _ _ (g .0);
-      metaStrings = i .0;
-      ioStrings = j .0;
-      cellStrings = k .0;
-      strings = leb-true _ _ (k .1);
+      cells = leb-true _ _ (fact _ h 0);
+      bits = leb-true _ _ (fact _ h 1);
+      outputs = leb-true _ _ (fact _ h 2);
+      runs = leb-true _ _ (fact _ h 3);
+      metas = leb-true _ _ (fact _ h 4);
+      members = leb-true _ _ (fact _ h 5);
+      ios = leb-true _ _ (fact _ h 6);
+      metaStrings = fact _ h 7;
+      ioStrings = fact _ h 8;
+      cellStrings = fact _ h 9;
+      strings = leb-true _ _ (fact _ h 10);
     }
 
 pub valid-roomy : (N : Netlist) → valid N ≡ true → Roomy N
 unfolding valid
-valid-roomy N v = roomy-is N (and-true _ _ v .0)
+valid-roomy N v = roomy-is N (fact _ v 0)
+
+pub valid-metas : (N : Netlist) → valid N ≡ true → metasSound [] (N .metas) ≡ true
+unfolding valid
+valid-metas N v = fact _ v 1
+
+pub valid-cells : (N : Netlist) → valid N ≡ true → every (cellSound (widthsOf (N .cells)) (length (N .metas))) (N .cells) ≡ true
+unfolding valid
+valid-cells N v = fact _ v 4
 
 abbrev netlist : List Meta → List Io → List Cell → Netlist
 netlist ms is cs = record { metas = ms; ios = is; cells = cs }
@@ -88,11 +86,18 @@ view-layout N v =
     λ k. netlist (m k) (i k) (c k)
 
 pub laid-layout : (N : Netlist) → laid N (layout N) ≡ true
-unfolding laid layout
+unfolding laid layout allOf
 laid-layout N =
-    rw (fits-pad (metaRows 0 0 0 (N .metas)) 8192, fits-pad (membersOf (N .metas)) 1024, fits-pad (ioRows (ioStart N) (N .ios)) 192,
-    fits-pad (cellRows (cellStart N) 0 (N .cells)) 4608, fits-pad (runRows 0 (runsOf (N .cells))) 12288, fits-pad (stringsOf N) 16384,
-    fits-pad (attrBitsOf (N .metas)) 131072, fits-pad (runBitsOf (runsOf (N .cells))) 262656)
+    rw (
+      fits-pad (metaRows 0 0 0 (N .metas)) 8192,
+      fits-pad (membersOf (N .metas)) 1024,
+      fits-pad (ioRows (ioStart N) (N .ios)) 192,
+      fits-pad (cellRows (cellStart N) 0 (N .cells)) 4608,
+      fits-pad (runRows 0 (runsOf (N .cells))) 12288,
+      fits-pad (stringsOf N) 16384,
+      fits-pad (attrBitsOf (N .metas)) 131072,
+      fits-pad (runBitsOf (runsOf (N .cells))) 262656,
+    )
 
 -- tables whose regions have their lengths
 pub record Long (T : Tables) : Type 0 where
@@ -125,7 +130,7 @@ abbrev tables : ℕ → ℕ → ℕ → List ℕ → List ℕ → List ℕ → L
 tables nm ni nc ms me is cs rs ss ab rb =
     record { metaCount = nm; ioCount = ni; cellCount = nc; metas = ms; members = me; ios = is; cells = cs; runs = rs; strings = ss; attrBits = ab; runBits = rb }
 
-tables-eq : (T U : Tables) → T .metaCount ≡ U .metaCount → T .ioCount ≡ U .ioCount → T .cellCount ≡ U .cellCount
+pub tables-eq : (T U : Tables) → T .metaCount ≡ U .metaCount → T .ioCount ≡ U .ioCount → T .cellCount ≡ U .cellCount
     → T .metas ≡ U .metas → T .members ≡ U .members → T .ios ≡ U .ios → T .cells ≡ U .cells → T .runs ≡ U .runs
     → T .strings ≡ U .strings → T .attrBits ≡ U .attrBits → T .runBits ≡ U .runBits → T ≡ U
 tables-eq T U a b c d e f g h i j k = λ x. tables (a x) (b x) (c x) (d x) (e x) (f x) (g x) (h x) (i x) (j x) (k x)
@@ -134,17 +139,10 @@ tables-eq T U a b c d e f g h i j k = λ x. tables (a x) (b x) (c x) (d x) (e x)
 pub laid-is : (T : Tables) → Long T → laid (view T) T ≡ true → T ≡ layout (view T)
 unfolding laid layout view
 laid-is T l h =
-    let a = and-true _ _ h in
-    let b = and-true _ _ (a .1) in
-    let c = and-true _ _ (b .1) in
-    let d = and-true _ _ (c .1) in
-    let e = and-true _ _ (d .1) in
-    let f = and-true _ _ (e .1) in
-    let g = and-true _ _ (f .1) in
     tables-eq T (layout (view T))
     (sym (length-metasIn T (T .metaCount) (T .metas))) (sym (length-iosIn T (T .ioCount) (T .ios))) (sym (length-cellsIn T (poolIn T) (T .cellCount) (T .cells)))
-    (fits-at 8192 _ _ (l .metas) (a .0)) (fits-at 1024 _ _ (l .members) (b .0)) (fits-at 192 _ _ (l .ios) (c .0)) (fits-at 4608 _ _ (l .cells) (d .0))
-    (fits-at 12288 _ _ (l .runs) (e .0)) (fits-at 16384 _ _ (l .strings) (f .0)) (fits-at 131072 _ _ (l .attrBits) (g .0)) (fits-at 262656 _ _ (l .runBits) (g .1))
+    (fits-at 8192 _ _ (l .metas) (fact _ h 0)) (fits-at 1024 _ _ (l .members) (fact _ h 1)) (fits-at 192 _ _ (l .ios) (fact _ h 2)) (fits-at 4608 _ _ (l .cells) (fact _ h 3))
+    (fits-at 12288 _ _ (l .runs) (fact _ h 4)) (fits-at 16384 _ _ (l .strings) (fact _ h 5)) (fits-at 131072 _ _ (l .attrBits) (fact _ h 6)) (fits-at 262656 _ _ (l .runBits) (fact _ h 7))
 
 -- GOOD TABLES ARE THE LAYOUTS OF VALID NETLISTS
 pub record Layout (T : Tables) : Type 0 where

@@ -1,3 +1,5 @@
 pub mod Cases
 pub mod Back
 pub mod Laying
+pub mod Lengths
+pub mod Slices

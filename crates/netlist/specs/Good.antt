@@ -6,6 +6,7 @@ use mathlib.Core.Option.{Option, none, some}
 use lib.Dec.{ltb, eqb}
 use lib.ListN.{length}
 use Rattle.ground.specs.Choice.{pick}
+use Rattle.ground.specs.Lists.{allOf}
 use Rattle.ground.specs.Refusals.{at, refusal}
 use Rattle.ground.specs.Regions.{fits}
 use Rattle.ground.specs.Text.{same}
@@ -20,15 +21,17 @@ use Rattle.netlist.specs.declared.Found.the-variants as found
 
 -- every region holds the rows of the netlist, and zeros behind them
 unfoldable pub laid : Netlist → Tables → Bool
-laid N T =
+laid N T = allOf (
     fits (metaRows 0 0 0 (N .metas)) (T .metas)
-    && (fits (membersOf (N .metas)) (T .members)
-    && (fits (ioRows (ioStart N) (N .ios)) (T .ios)
-    && (fits (cellRows (cellStart N) 0 (N .cells)) (T .cells)
-    && (fits (runRows 0 (runsOf (N .cells))) (T .runs)
-    && (fits (stringsOf N) (T .strings)
-    && (fits (attrBitsOf (N .metas)) (T .attrBits)
-    && fits (runBitsOf (runsOf (N .cells))) (T .runBits)))))))
+    ∷ fits (membersOf (N .metas)) (T .members)
+    ∷ fits (ioRows (ioStart N) (N .ios)) (T .ios)
+    ∷ fits (cellRows (cellStart N) 0 (N .cells)) (T .cells)
+    ∷ fits (runRows 0 (runsOf (N .cells))) (T .runs)
+    ∷ fits (stringsOf N) (T .strings)
+    ∷ fits (attrBitsOf (N .metas)) (T .attrBits)
+    ∷ fits (runBitsOf (runsOf (N .cells))) (T .runBits)
+    ∷ []
+    )
 
 -- Document 01, Room: "Good tables are those so laid out that meet Text's number ranges and every rule of 9 to 14, with operands held
 -- as longest runs"

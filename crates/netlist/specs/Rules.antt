@@ -5,7 +5,7 @@ use mathlib.Core.List.{List, [], _∷_, _++_, map}
 use lib.Dec.{leb, ltb, eqb}
 use lib.ListN.{length, getD}
 use Rattle.ground.specs.Choice.{pick}
-use Rattle.ground.specs.Lists.{every, total}
+use Rattle.ground.specs.Lists.{every, allOf, total}
 use Rattle.ground.specs.Text.{same}
 use Rattle.kinds.specs.Kinds.{kindAt, isKind, wide, inputKind, outputKind}
 use Rattle.netlist.specs.Netlist.{Run, const, piece, Meta, Io, Cell, Netlist, setMeta, sourceMeta, scopeMeta, indexedMeta, identMeta, bitsMeta, integerMeta, stringMeta, isScope, operandWidth, stringsOf, membersOf, runsOf}
@@ -48,10 +48,12 @@ abbrev pub anyKind : ℕ → Bool
 anyKind kind = true
 
 abbrev pub references : List ℕ → Meta → Bool
-references kinds m =
+references kinds m = allOf (
     every (refers isMember kinds) (m .members)
-    && (pick (eqb (m .kind) identMeta) (refers isScope kinds (m .inside)) (mayRefer isScope kinds (m .inside))
-    && mayRefer isSource kinds (m .source))
+    ∷ pick (eqb (m .kind) identMeta) (refers isScope kinds (m .inside)) (mayRefer isScope kinds (m .inside))
+    ∷ mayRefer isSource kinds (m .source)
+    ∷ []
+    )
 
 -- RULE 11: "empty name, bad range, short set"
 abbrev pub hasName : ℕ → Bool
@@ -71,10 +73,12 @@ badRange line column endLine endColumn =
     || (ltb endLine line || (eqb endLine line && ltb endColumn column))
 
 abbrev pub complete : Meta → Bool
-complete m =
+complete m = allOf (
     (not (hasName (m .kind)) || not (isEmpty (m .name)))
-    && (not (badRange (m .line) (m .column) (m .endLine) (m .endColumn))
-    && (not (eqb (m .kind) setMeta) || leb 2 (length (m .members))))
+    ∷ not (badRange (m .line) (m .column) (m .endLine) (m .endColumn))
+    ∷ (not (eqb (m .kind) setMeta) || leb 2 (length (m .members)))
+    ∷ []
+    )
 
 -- RULE 12: "An attribute's constant is 1 to 256 wide"; I/O: "w 1 to 256"; cells: the table's widths
 abbrev pub attrWidth : Meta → Bool
@@ -91,18 +95,20 @@ abbrev pub shortString : List ℕ → Bool
 shortString s = leb (length s) 255
 
 unfoldable pub roomy : Netlist → Bool
-roomy N =
+roomy N = allOf (
     leb (length (N .cells)) 512
-    && (leb (total (λ c. c .width) (N .cells)) 4096
-    && (leb (total outputBits (N .cells)) 4096
-    && (leb (length (runsOf (N .cells))) 4096
-    && (leb (length (N .metas)) 512
-    && (leb (length (membersOf (N .metas))) 1024
-    && (leb (length (N .ios)) 64
-    && (every (λ m. shortString (m .name) && shortString (m .text)) (N .metas)
-    && (every (λ i. shortString (i .name)) (N .ios)
-    && (every (λ c. shortString (c .name)) (N .cells)
-    && leb (length (stringsOf N)) 16384)))))))))
+    ∷ leb (total (λ c. c .width) (N .cells)) 4096
+    ∷ leb (total outputBits (N .cells)) 4096
+    ∷ leb (length (runsOf (N .cells))) 4096
+    ∷ leb (length (N .metas)) 512
+    ∷ leb (length (membersOf (N .metas))) 1024
+    ∷ leb (length (N .ios)) 64
+    ∷ every (λ m. shortString (m .name) && shortString (m .text)) (N .metas)
+    ∷ every (λ i. shortString (i .name)) (N .ios)
+    ∷ every (λ c. shortString (c .name)) (N .cells)
+    ∷ leb (length (stringsOf N)) 16384
+    ∷ []
+    )
 
 -- RULE 14: "A piece resolves when its cell is declared anywhere in the text and o+w is at most the cell's width". The widths of all
 -- cells are given.
@@ -120,37 +126,50 @@ abbrev pub isNumber : ℕ → Bool
 isNumber n = ltb n 4294967296
 
 abbrev pub ranges : Meta → Bool
-ranges m =
-    every isByte (m .name) && (every isByte (m .text) && (every isTrit (m .bits)
-    && (isNumber (m .number) && (isNumber (m .line) && (isNumber (m .column) && (isNumber (m .endLine) && isNumber (m .endColumn)))))))
+ranges m = allOf (
+    every isByte (m .name)
+    ∷ every isByte (m .text)
+    ∷ every isTrit (m .bits)
+    ∷ isNumber (m .number)
+    ∷ isNumber (m .line)
+    ∷ isNumber (m .column)
+    ∷ isNumber (m .endLine)
+    ∷ isNumber (m .endColumn)
+    ∷ []
+    )
 
 -- what a kind of metadata does not have is empty or 0
 abbrev pub unless : Bool → Bool → Bool
 unless has unused = has || unused
 
 abbrev pub shape : Meta → Bool
-shape m =
+shape m = allOf (
     (leb 1 (m .kind) && leb (m .kind) 8)
-    && (unless (hasName (m .kind)) (isEmpty (m .name))
-    && (unless (eqb (m .kind) stringMeta) (isEmpty (m .text))
-    && (unless (eqb (m .kind) setMeta) (isEmpty (m .members))
-    && (unless (eqb (m .kind) bitsMeta) (isEmpty (m .bits))
-    && (unless (isScope (m .kind) || eqb (m .kind) identMeta) (eqb (m .inside) 0)
-    && (unless (isScope (m .kind)) (eqb (m .source) 0)
-    && (unless (eqb (m .kind) indexedMeta || eqb (m .kind) integerMeta) (eqb (m .number) 0)
-    && unless (eqb (m .kind) sourceMeta) (eqb (m .line) 0 && (eqb (m .column) 0 && (eqb (m .endLine) 0 && eqb (m .endColumn) 0))))))))))
+    ∷ unless (hasName (m .kind)) (isEmpty (m .name))
+    ∷ unless (eqb (m .kind) stringMeta) (isEmpty (m .text))
+    ∷ unless (eqb (m .kind) setMeta) (isEmpty (m .members))
+    ∷ unless (eqb (m .kind) bitsMeta) (isEmpty (m .bits))
+    ∷ unless (isScope (m .kind) || eqb (m .kind) identMeta) (eqb (m .inside) 0)
+    ∷ unless (isScope (m .kind)) (eqb (m .source) 0)
+    ∷ unless (eqb (m .kind) indexedMeta || eqb (m .kind) integerMeta) (eqb (m .number) 0)
+    ∷ unless (eqb (m .kind) sourceMeta) (eqb (m .line) 0 && (eqb (m .column) 0 && (eqb (m .endLine) 0 && eqb (m .endColumn) 0)))
+    ∷ []
+    )
 
 -- METADATA, row after row: the kinds of the earlier rows are given
+abbrev pub metaSound : List ℕ → Meta → Bool
+metaSound kinds m = allOf (shape m ∷ ranges m ∷ references kinds m ∷ complete m ∷ attrWidth m ∷ [])
+
 unfoldable pub metasSound : List ℕ → List Meta → Bool
 metasSound kinds [] = true
-metasSound kinds (m ∷ ms) = elim (shape m && (ranges m && (references kinds m && (complete m && attrWidth m)))) [
+metasSound kinds (m ∷ ms) = elim (metaSound kinds m) [
   | true ↦ metasSound (kinds ++ (m .kind ∷ [])) ms
   | false ↦ false
 ]
 
 -- I/O
 abbrev pub ioSound : Io → Bool
-ioSound i = not (isEmpty (i .name)) && (every isByte (i .name) && wide (i .width))
+ioSound i = allOf (not (isEmpty (i .name)) ∷ every isByte (i .name) ∷ wide (i .width) ∷ [])
 
 -- CELLS: a run has a width, its trits are trits, its piece resolves
 abbrev pub runSound : List ℕ → Run → Bool
@@ -164,27 +183,33 @@ abbrev pub runless : List Run → Bool
 runless rs = eqb (length rs) 0
 
 abbrev pub cellSound : List ℕ → ℕ → Cell → Bool
-cellSound widths metas c =
+cellSound widths metas c = allOf (
     isKind (c .kind)
-    && (pick (kindAt (c .kind) .named) (not (isEmpty (c .name))) (isEmpty (c .name))
-    && (every isByte (c .name)
-    && (leb (c .meta) metas
-    && (unless (leb 1 (kindAt (c .kind) .operands)) (runless (c .a))
-    && (unless (leb 2 (kindAt (c .kind) .operands)) (runless (c .b))
-    && (unless (leb 3 (kindAt (c .kind) .operands)) (runless (c .c))
-    && (cellWidth (c .kind) (c .width) (operandWidth (c .a)) (operandWidth (c .b)) (operandWidth (c .c))
-    && (operandSound widths (c .a) && (operandSound widths (c .b) && operandSound widths (c .c))))))))))
+    ∷ pick (kindAt (c .kind) .named) (not (isEmpty (c .name))) (isEmpty (c .name))
+    ∷ every isByte (c .name)
+    ∷ leb (c .meta) metas
+    ∷ unless (leb 1 (kindAt (c .kind) .operands)) (runless (c .a))
+    ∷ unless (leb 2 (kindAt (c .kind) .operands)) (runless (c .b))
+    ∷ unless (leb 3 (kindAt (c .kind) .operands)) (runless (c .c))
+    ∷ cellWidth (c .kind) (c .width) (operandWidth (c .a)) (operandWidth (c .b)) (operandWidth (c .c))
+    ∷ operandSound widths (c .a)
+    ∷ operandSound widths (c .b)
+    ∷ operandSound widths (c .c)
+    ∷ []
+    )
 
 abbrev pub widthsOf : List Cell → List ℕ
 widthsOf cs = map (λ c. c .width) cs
 
 -- VALID: "every rule of 9 to 14, with operands held as longest runs"
 unfoldable pub valid : Netlist → Bool
-valid N =
+valid N = allOf (
     roomy N
-    && (metasSound [] (N .metas)
-    && (every ioSound (N .ios)
-    && (distinct (ioNames (N .ios))
-    && (every (cellSound (widthsOf (N .cells)) (length (N .metas))) (N .cells)
-    && (distinct (namesAs inputKind (N .cells))
-    && distinct (namesAs outputKind (N .cells)))))))
+    ∷ metasSound [] (N .metas)
+    ∷ every ioSound (N .ios)
+    ∷ distinct (ioNames (N .ios))
+    ∷ every (cellSound (widthsOf (N .cells)) (length (N .metas))) (N .cells)
+    ∷ distinct (namesAs inputKind (N .cells))
+    ∷ distinct (namesAs outputKind (N .cells))
+    ∷ []
+    )

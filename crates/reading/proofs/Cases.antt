@@ -3,8 +3,8 @@ use Prim.Native.Nat.{ℕ}
 use Prim.Native.String.{String}
 use mathlib.Core.Path.{_≡_, refl}
 use mathlib.Core.List.{List, [], _∷_, map}
-use Rattle.ground.specs.Lists.{every, total, joined}
-use Rattle.ground.specs.Regions.{zeros, blank, fits, pad, part}
+use Rattle.ground.specs.Lists.{every, allOf, total, joined, upFrom, updated}
+use Rattle.ground.specs.Regions.{zeros, blank, fits, pad, over, part}
 use Rattle.ground.specs.Text.{bytes, same}
 use Rattle.kinds.specs.Kinds.{kindAt}
 use Rattle.lexis.specs.Bytes.{classFrom, classOf}
@@ -175,5 +175,5 @@ cases =
     ∷ []
 
 decided : map (λ (c : Case). answerOf (reading (c .text))) cases ≡ map (λ (c : Case). c .answer) cases
-unfolding every total joined zeros blank fits pad part bytes same kindAt classFrom classOf tailOf badFrom endsInFeed wholeOf spanEnd commentEnd insideEnd digitsFrom suffixAt stringFrom metaOf numberOf constantOf cellOf ioOf wordOf longOf follows tokenFrom tokenAt insideAt numbered concatFrom operandAt partsFrom partsAt setFrom membersFrom setForm sourceForm optionAt scopeForm identForm attrForm metaForm ioForm operandIf metaIf wiringForm namedForm cellForm bodyForm openForm formAt falling knownBits cut longest taken distinct namesAs roomy metasSound valid rowFrom copies operandRuns operandPieces added firstMisnamed lastMeta ruledOut declarationsFrom firstUnresolved netlistOf readSound reading
+unfolding every allOf total joined upFrom updated zeros blank fits pad over part bytes same kindAt classFrom classOf tailOf badFrom endsInFeed wholeOf spanEnd commentEnd insideEnd digitsFrom suffixAt stringFrom metaOf numberOf constantOf cellOf ioOf wordOf longOf follows tokenFrom tokenAt insideAt numbered concatFrom operandAt partsFrom partsAt setFrom membersFrom setForm sourceForm optionAt scopeForm identForm attrForm metaForm ioForm operandIf metaIf wiringForm namedForm cellForm bodyForm openForm formAt falling knownBits cut longest taken distinct namesAs roomy metasSound valid rowFrom copies operandRuns operandPieces added firstMisnamed lastMeta ruledOut declarationsFrom firstUnresolved netlistOf readSound reading
 decided = refl
