@@ -10,7 +10,7 @@ unfoldable pub valuesFrom : List ℕ → Netlist → List ℕ → Setting → Se
 valuesFrom [] N ins v = v
 valuesFrom (row ∷ rows) N ins v = valuesFrom rows N ins (updated v row (ruleOf N ins v row))
 
--- the inputs' bits, and nothing else yet
+-- the inputs' bits; what other rows hold at the start is never read
 unfoldable pub assigned : Netlist → List ℕ → Setting
 assigned N ins row = ruleOf N ins (λ j. []) row
 

@@ -5,6 +5,7 @@ use mathlib.Core.Bool.{Bool, true, false}
 use mathlib.Core.List.{List, [], _∷_, _++_, map}
 use lib.ListN.{replicate}
 use Rattle.ground.specs.Lists.{every, allOf, total, joined}
+use Rattle.ground.specs.Refusals.{at, refusal}
 use Rattle.ground.specs.Regions.{zeros, blank, fits, pad, part}
 use Rattle.ground.specs.Text.{bytes, same}
 use Rattle.kinds.specs.Kinds.{kindAt}
@@ -13,7 +14,8 @@ use Rattle.netlist.specs.Runs.{Bit, known, bit, falling, knownBits, cut,
 use Rattle.netlist.specs.Rules.{taken, distinct, namesAs, roomy, metasSound, valid}
 use Rattle.netlist.specs.Tables.{Tables, metaRows, ioRows, cellRows, runRows, layout, rowsOf, bitsOf, tablesIn}
 use Rattle.netlist.specs.View.{metasIn, iosIn, runsIn, cellsIn, view}
-use Rattle.netlist.specs.Good.{laid, good}
+use Rattle.netlist.specs.Good.{laid, good, short, checkOf}
+use Rattle.netlist.specs.declared.Checked.the-variants.{Good, Refused}
 
 -- bits, and the runs that they are cut into
 pub record Cutting : Type 0 where
@@ -109,3 +111,11 @@ shown = refl
 held : good lent ≡ true
 unfolding lent meta metas cell netlist whole every allOf total joined bytes same kindAt longest taken distinct namesAs roomy metasSound valid zeros blank fits pad part metaRows ioRows cellRows runRows layout rowsOf bitsOf tablesIn metasIn iosIn runsIn cellsIn view laid good
 held = refl
+
+-- lent slices: one word short is 1; zeros show no declaration, and are good; a row counted that is not there is 15
+lent-right :
+    (checkOf (replicate 26306 0) (replicate 16384 0) (replicate 393728 0) ≡ Refused (refusal 1 (at 0)))
+    × (checkOf (replicate 26307 0) (replicate 16384 0) (replicate 393728 0) ≡ Good)
+    × (checkOf (1 ∷ replicate 26306 0) (replicate 16384 0) (replicate 393728 0) ≡ Refused (refusal 15 (at 0)))
+unfolding every allOf total joined bytes same kindAt longest taken distinct namesAs roomy metasSound valid zeros blank fits pad part metaRows ioRows cellRows runRows tablesIn metasIn iosIn runsIn cellsIn view laid good short checkOf
+lent-right = (refl, refl, refl)

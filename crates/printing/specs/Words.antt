@@ -29,7 +29,10 @@ hexDigit d = pick (ltb d 10) (48 + d) (87 + d)
 
 unfoldable pub escaped : List ℕ → List ℕ → List ℕ
 escaped [] k = k
-escaped (b ∷ bs) k = pick (rawByte b) (b ∷ escaped bs k) (92 ∷ hexDigit (b / 16) ∷ hexDigit (b % 16) ∷ escaped bs k)
+escaped (b ∷ bs) k = elim (rawByte b) [
+  | true ↦ b ∷ escaped bs k
+  | false ↦ 92 ∷ hexDigit (b / 16) ∷ hexDigit (b % 16) ∷ escaped bs k
+]
 
 unfoldable pub quoted : List ℕ → List ℕ → List ℕ
 quoted bs k = 34 ∷ escaped bs (34 ∷ k)

@@ -44,13 +44,17 @@ pub data Ask : Type 0 where
   toEvaluate : ℕ → List ℕ → List ℕ → Ask
   -- the load list, into room for so many bytes
   toTranslate : ℕ → List ℕ → Ask
+  -- the number of records told for that room
+  toCount : ℕ → List ℕ → Ask
   -- the output bits of a load list for input bits, into room for so many
   toRun : ℕ → List ℕ → List ℕ → Ask
 
 pub data Answer : Type 0 where
   accepted : Answer
   refusedAt : ℕ → ℕ → Answer
-  gives : List ℕ → Answer
+  -- the number told, and what stands in the room
+  gives : ℕ → List ℕ → Answer
+  counts : ℕ → Answer
 
 abbrev pub told : Refusal → Answer
 told g = refusedAt (g .number) (g .place .at)
@@ -61,37 +65,42 @@ ofText f (says N) = f N
 ofText f (refused g) = told g
 
 abbrev printedAnswer : Printed → List ℕ → Answer
-printedAnswer (printed.Length n) room = gives room
+printedAnswer (printed.Length n) room = gives n room
 printedAnswer (printed.Refused g) room = told g
 
 abbrev namedAnswer : Named → List ℕ → Answer
-namedAnswer (named.Length n) room = gives room
+namedAnswer (named.Length n) room = gives n room
 namedAnswer (named.Refused g) room = told g
 
 abbrev foundAnswer : Found → Answer
-foundAnswer (found.Row row width) = gives (row ∷ width ∷ [])
+foundAnswer (found.Row row width) = gives row (width ∷ [])
 foundAnswer (found.Refused g) = told g
 
 abbrev evaluatedAnswer : Evaluated → List ℕ → Answer
-evaluatedAnswer (evaluated.Outputs n) outs = gives outs
+evaluatedAnswer (evaluated.Outputs n) outs = gives n outs
 evaluatedAnswer (evaluated.Refused g) outs = told g
 
 abbrev translatedAnswer : Translated → List ℕ → Answer
-translatedAnswer (translated.Records n) room = gives room
+translatedAnswer (translated.Records n) room = gives n room
 translatedAnswer (translated.Refused g) room = told g
 
+abbrev countAnswer : Translated → Answer
+countAnswer (translated.Records n) = counts n
+countAnswer (translated.Refused g) = told g
+
 abbrev ranAnswer : Ran → List ℕ → Answer
-ranAnswer (ran.Outputs n) outs = gives outs
+ranAnswer (ran.Outputs n) outs = gives n outs
 ranAnswer (ran.Refused g) outs = told g
 
 unfoldable pub answerTo : Ask → Answer
 answerTo (toRead text) = ofText (λ N. accepted) (reading text)
 answerTo (toPrint room text) = ofText (λ N. let o = print.written (canonical N) (zeros room) in printedAnswer (o .answer) (o .room)) (reading text)
-answerTo (toShow text row) = ofText (λ N. gives (cellAt N row .name)) (reading text)
+answerTo (toShow text row) = ofText (λ N. gives row (cellAt N row .name)) (reading text)
 answerTo (toName room text row) = ofText (λ N. let o = name.written N row (zeros room) in namedAnswer (o .answer) (o .room)) (reading text)
 answerTo (toFind text wanted) = ofText (λ N. foundAnswer (lookup N wanted)) (reading text)
 answerTo (toEvaluate room text ins) = ofText (λ N. let o = evaluate.evaluatedOf N ins (zeros room) [] in evaluatedAnswer (o .answer) (o .outs)) (reading text)
 answerTo (toTranslate room text) = ofText (λ N. let o = translate.translatedOf N (zeros room) [] in translatedAnswer (o .answer) (o .room)) (reading text)
+answerTo (toCount room text) = ofText (λ N. countAnswer (translate.translatedOf N (zeros room) [] .answer)) (reading text)
 answerTo (toRun room list ins) = let o = run.runOf list ins (zeros room) (zeros run.workLength) in ranAnswer (o .answer) (o .outs)
 
 -- a case: what is asked, and the answer

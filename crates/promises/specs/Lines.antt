@@ -5,7 +5,7 @@ use mathlib.Core.List.{List, [], _∷_, _++_}
 use lib.ListN.{replicate}
 use Rattle.ground.specs.Lists.{joined}
 use Rattle.ground.specs.Text.{bytes}
-use Rattle.promises.specs.Asking.{Line, line, Ask, toRead, toPrint, toShow, toEvaluate, toTranslate, Answer, accepted, refusedAt, gives}
+use Rattle.promises.specs.Asking.{Line, line, Ask, toRead, toPrint, toShow, toEvaluate, toTranslate, toCount, Answer, accepted, refusedAt, gives, counts}
 
 -- the netlist of the second and third line, with an operand of its output
 abbrev sized : String → List ℕ
@@ -21,7 +21,7 @@ markedLines =
     -- "P empty: 4 at 0. P one LF: accepted, prints one LF."
     line (toRead []) (refusedAt 4 0)
     ∷ line (toRead (bytes "\n")) accepted
-    ∷ line (toPrint 1 (bytes "\n")) (gives (bytes "\n"))
+    ∷ line (toPrint 1 (bytes "\n")) (gives 1 (bytes "\n"))
     -- "then `%4:0 = output "y" %0+2:3`: 14 at 38. P With `%0+1:3`: accepted."
     ∷ line (toRead (sized "%0+2:3")) (refusedAt 14 38)
     ∷ line (toRead (sized "%0+1:3")) accepted
@@ -32,17 +32,17 @@ markedLines =
     ∷ line (toRead (bytes "%0:1 = buf %0\n")) accepted
     ∷ line (toTranslate 65536 (bytes "%0:1 = buf %0\n")) (refusedAt 20 0)
     -- "P `"\5c"` one byte; `"\5C"` 5. Width 256 accepted, 257 refused 12."
-    ∷ line (toShow (bytes "%0:1 = input \"\\5c\"\n") 0) (gives (0x5c ∷ []))
+    ∷ line (toShow (bytes "%0:1 = input \"\\5c\"\n") 0) (gives 0 (0x5c ∷ []))
     ∷ line (toRead (bytes "%0:1 = input \"\\5C\"\n")) (refusedAt 5 13)
     ∷ line (toRead (bytes "%0:256 = input \"a\"\n")) accepted
     ∷ line (toRead (bytes "%0:257 = input \"a\"\n")) (refusedAt 12 0)
     -- "P mux X 1 1 = X. P eq 1X 0X = 0; eq 1X 10 = X. P ult 0X 10 = 1; slt 10 01 = 1. P adc 0 X 0 = 0X."
-    ∷ line (toEvaluate 1 (valued "1 = mux X 1 1" "%0") []) (gives (2 ∷ []))
-    ∷ line (toEvaluate 1 (valued "1 = eq 1X 0X" "%0") []) (gives (0 ∷ []))
-    ∷ line (toEvaluate 1 (valued "1 = eq 1X 10" "%0") []) (gives (2 ∷ []))
-    ∷ line (toEvaluate 1 (valued "1 = ult 0X 10" "%0") []) (gives (1 ∷ []))
-    ∷ line (toEvaluate 1 (valued "1 = slt 10 01" "%0") []) (gives (1 ∷ []))
-    ∷ line (toEvaluate 2 (valued "2 = adc 0 X 0" "%0:2") []) (gives (2 ∷ 0 ∷ []))
+    ∷ line (toEvaluate 1 (valued "1 = mux X 1 1" "%0") []) (gives 1 (2 ∷ []))
+    ∷ line (toEvaluate 1 (valued "1 = eq 1X 0X" "%0") []) (gives 1 (0 ∷ []))
+    ∷ line (toEvaluate 1 (valued "1 = eq 1X 10" "%0") []) (gives 1 (2 ∷ []))
+    ∷ line (toEvaluate 1 (valued "1 = ult 0X 10" "%0") []) (gives 1 (1 ∷ []))
+    ∷ line (toEvaluate 1 (valued "1 = slt 10 01" "%0") []) (gives 1 (1 ∷ []))
+    ∷ line (toEvaluate 2 (valued "2 = adc 0 X 0" "%0:2") []) (gives 2 (2 ∷ 0 ∷ []))
     ∷ []
 
 -- THE OTHER LINES: a program runs them
@@ -74,7 +74,8 @@ loaded =
 
 abbrev pub otherLines : List Line
 otherLines =
-    line (toTranslate 0 (fifteen "254")) (refusedAt 21 0)
-    ∷ line (toPrint 78 listed) (gives listing)
-    ∷ line (toTranslate 104 listed) (gives loaded)
+    line (toCount 65536 (fifteen "253")) (counts 8192)
+    ∷ line (toCount 65536 (fifteen "254")) (refusedAt 21 0)
+    ∷ line (toPrint 78 listed) (gives 78 listing)
+    ∷ line (toTranslate 104 listed) (gives 13 loaded)
     ∷ []

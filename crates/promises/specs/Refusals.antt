@@ -27,17 +27,21 @@ refusals =
     ∷ line (toRead (bytes "%0:1 = dff 1\n")) (refusedAt 8 7)
     -- 9 declared twice, 10 reference, 11 short set, 12 width, 13 a string of 256 bytes, 14 piece
     ∷ line (toRead (bytes "%1:1 = buf 1\n%01:1 = buf 1\n")) (refusedAt 9 13)
+    ∷ line (toRead (bytes "%0:1 = input \"a\"\n%1:1 = input \"a\"\n")) (refusedAt 9 17)
     ∷ line (toRead (bytes "!0 = {!1 !2}\n")) (refusedAt 10 6)
     ∷ line (toRead (bytes "!0 = {}\n")) (refusedAt 11 0)
+    ∷ line (toRead (bytes "%0:0 = output \"\" 1\n")) (refusedAt 11 0)
     ∷ line (toRead (bytes "%0:2 = buf 1\n")) (refusedAt 12 0)
+    ∷ line (toRead (bytes "!0 = attr \"a\" " ++ (replicate 256 48 ++ bytes "\n"))) accepted
+    ∷ line (toRead (bytes "!0 = attr \"a\" " ++ (replicate 257 48 ++ bytes "\n"))) (refusedAt 12 0)
     ∷ line (toRead (bytes "%0:1 = input \"" ++ (replicate 255 97 ++ bytes "\"\n"))) accepted
     ∷ line (toRead (bytes "%0:1 = input \"" ++ (replicate 256 97 ++ bytes "\"\n"))) (refusedAt 13 0)
     ∷ line (toRead (bytes "%0:1 = buf [1 %0+65535:65535*0]\n")) (refusedAt 14 14)
     -- 16 no ident, 18 no such I/O name
-    ∷ line (toName 10 names 2) (gives (bytes "top/-3/clk"))
+    ∷ line (toName 10 names 2) (gives 10 (bytes "top/-3/clk"))
     ∷ line (toName 10 names 1) (refusedAt 16 0)
     ∷ line (toName 10 names 3) (refusedAt 16 0)
-    ∷ line (toFind names (bytes "gpio")) (gives (1 ∷ 4 ∷ []))
+    ∷ line (toFind names (bytes "gpio")) (gives 1 (4 ∷ []))
     ∷ line (toFind names (bytes "gpi")) (refusedAt 18 0)
     -- 20 ring, 21 more than 8,192 records, 22 bad list, 23 assignment, 24 room
     ∷ line (toEvaluate 9 (bytes "%0:2 = buf [%0+0 1]\n") []) (refusedAt 20 0)
@@ -49,6 +53,6 @@ refusals =
     ∷ line (toPrint 55 inverted) (refusedAt 24 0)
     ∷ line (toTranslate 71 inverted) (refusedAt 24 0)
     -- and where nothing is refused
-    ∷ line (toRun 2 loaded (1 ∷ 1 ∷ [])) (gives (0 ∷ 1 ∷ []))
-    ∷ line (toEvaluate 3 inverted (1 ∷ 2 ∷ [])) (gives (0 ∷ 2 ∷ 0 ∷ []))
+    ∷ line (toRun 2 loaded (1 ∷ 1 ∷ [])) (gives 2 (0 ∷ 1 ∷ []))
+    ∷ line (toEvaluate 3 inverted (1 ∷ 2 ∷ [])) (gives 2 (0 ∷ 2 ∷ 0 ∷ []))
     ∷ []
