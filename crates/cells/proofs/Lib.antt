@@ -1,3 +1,4 @@
 pub mod Cases
 pub mod Running
 pub mod Rightness
+pub mod Meaning
