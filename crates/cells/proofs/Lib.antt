@@ -2,3 +2,4 @@ pub mod Cases
 pub mod Running
 pub mod Rightness
 pub mod Meaning
+pub mod Linking
