@@ -3,10 +3,11 @@ use mathlib.Core.Path.{_≡_, refl}
 use mathlib.Core.Bool.{Bool, true, false, true≢false, not, _&&_, _||_}
 use mathlib.Core.Logic.{_⊎_, inl, inr}
 use mathlib.Core.List.{List, [], _∷_}
-use Prim.Native.Nat.{ℕ, zero, suc}
+use Prim.Native.Nat.{ℕ, zero, suc, _<_}
+use native.Mathlib.Omega.{arith}
 use lib.Dec.{T}
-use lib.ListN.{getD}
-use Rattle.ground.specs.Lists.{allOf}
+use lib.ListN.{length, getD}
+use Rattle.ground.specs.Lists.{every, allOf}
 
 -- a proof by the two values of a test, each with what it tells
 pub bool-cases : {P : Type 0} (b : Bool) → (b ≡ true → P) → (b ≡ false → P) → P
@@ -76,3 +77,20 @@ pub fact-fails : (b : Bool) (bs : List Bool) → b ≡ false → allOf (b ∷ bs
 unfolding allOf
 fact-fails true bs p = never-both refl p
 fact-fails false bs p = refl
+
+-- what holds of every element holds of each
+pub every-at : {A : Type 0} (p : A → Bool) (xs : List A) (d : A) → every p xs ≡ true → (i : ℕ) → i < length xs → p (getD xs i d) ≡ true
+unfolding every
+every-at p [] d h i l = absurd (omega arith)
+every-at p (x ∷ xs) d h zero l = bool-cases (p x) (λ e. e) (λ e. never-both (rw (e, every) at h) refl)
+every-at p (x ∷ xs) d h (suc i) l =
+    bool-cases (p x) (λ e. every-at p xs d (rw (e, every) at h) i (omega arith)) (λ e. never-both (rw (e, every) at h) refl)
+
+-- .. of the first, and of every further one
+pub every-first : {A : Type 0} (p : A → Bool) (x : A) (xs : List A) → every p (x ∷ xs) ≡ true → (p x ≡ true) × (every p xs ≡ true)
+unfolding every
+every-first p x xs h = bool-cases (p x) (λ e. (e, rw (e, every) at h)) (λ e. never-both (rw (e, every) at h) refl)
+
+pub every-more : {A : Type 0} (p : A → Bool) (x : A) (xs : List A) → p x ≡ true → every p xs ≡ true → every p (x ∷ xs) ≡ true
+unfolding every
+every-more p x xs e h = rw (e, every) h

@@ -72,14 +72,17 @@ unfolding total
 unused n [] k h l = refl
 unused n (r ∷ rs) k h l = bool-cases (leb (suc n) k) (λ e. absurd (omega (arith, leb-true (suc n) k e))) (λ e. never-both {b = runless (r ∷ rs)} (rw e at h) (eqb·suc-zero (length rs)))
 
+-- the widths of a sound cell's operands pass its kind's rule
+pub cell-fits : (widths : List ℕ) (metas : ℕ) (c : Cell) → cellSound widths metas c ≡ true → Fits (kindAt (c .kind)) (c .width) (operandWidth (c .a)) (operandWidth (c .b)) (operandWidth (c .c))
+cell-fits widths metas c h = record {
+  widths = fact _ h 7;
+  first = unused 0 (c .a) _ (fact _ h 4);
+  second = unused 1 (c .b) _ (fact _ h 5);
+  third = unused 2 (c .c) _ (fact _ h 6);
+}
+
 cell-bound : (widths : List ℕ) (metas : ℕ) (c : Cell) → cellSound widths metas c ≡ true → length (runBitsOf (cellRuns c)) ≤ 513
 cell-bound widths metas c h =
-    let f : Fits (kindAt (c .kind)) (c .width) (operandWidth (c .a)) (operandWidth (c .b)) (operandWidth (c .c)) = record {
-      widths = fact _ h 7;
-      first = unused 0 (c .a) _ (fact _ h 4);
-      second = unused 1 (c .b) _ (fact _ h 5);
-      third = unused 2 (c .c) _ (fact _ h 6);
-    } in
     omega (
       arith,
       runBits-append (c .a) (c .b ++ c .c),
@@ -87,7 +90,7 @@ cell-bound widths metas c h =
       trits-bound (c .a),
       trits-bound (c .b),
       trits-bound (c .c),
-      bounded (c .kind) (c .width) (operandWidth (c .a)) (operandWidth (c .b)) (operandWidth (c .c)) f,
+      bounded (c .kind) (c .width) (operandWidth (c .a)) (operandWidth (c .b)) (operandWidth (c .c)) (cell-fits widths metas c h),
     )
 
 pub trits-room : (widths : List ℕ) (metas : ℕ) (cs : List Cell) → every (cellSound widths metas) cs ≡ true → length (runBitsOf (runsOf cs)) ≤ length cs * 513
