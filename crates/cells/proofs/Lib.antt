@@ -3,3 +3,4 @@ pub mod Running
 pub mod Rightness
 pub mod Meaning
 pub mod Linking
+pub mod Fields
