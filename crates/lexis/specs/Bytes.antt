@@ -1,6 +1,6 @@
 -- The classes of bytes. Document 01, Text: "A byte's class (white, digit, letter, sigil, bracket and so on) comes from a table of
 -- 256 classes". The rule is a list of ranges, each with its class; a byte that no range holds has the class `other`.
-use Prim.Native.Nat.{ℕ, _-_}
+use Prim.Native.Nat.{ℕ, zero, suc, _+_, _-_}
 use mathlib.Core.Bool.{Bool, true, false}
 use mathlib.Core.List.{List, [], _∷_}
 use lib.Dec.{leb, ltb, eqb}
@@ -46,6 +46,15 @@ classFrom (c ∷ cs) b = elim (inRange (c .bytes) b) [ true ↦ c .number | fals
 
 unfoldable pub classOf : ℕ → ℕ
 classOf b = classFrom classes b
+
+-- the classes of n bytes, from the byte b on
+unfoldable pub classesFrom : ℕ → ℕ → List ℕ
+classesFrom b zero = []
+classesFrom b (suc n) = classOf b ∷ classesFrom (b + 1) n
+
+-- the table: entry b is the class of the byte b
+unfoldable pub table : List ℕ
+table = classesFrom 0 256
 
 abbrev pub isWhite : ℕ → Bool
 isWhite b = eqb (classOf b) 1
