@@ -1,0 +1,121 @@
+-- Strings: what a byte of a string that means one more stands for, and the values of hexadecimal digits.
+use Prim.Native.Nat.{ℕ, suc, _+_, _-_, _*_, _<_, _≤_}
+use mathlib.Core.Path.{_≡_, refl, sym, ap, _∙_}
+use mathlib.Core.Bool.{Bool, true, not, _&&_, _||_}
+use mathlib.Core.List.{List, [], _∷_}
+use native.Mathlib.Omega.{arith}
+use native.Mathlib.Nat.{add-zero}
+use lib.Dec.{T, eqb, ltb, leb, eqb→eq, leb→le}
+use lib.ListN.{length, drop, getD}
+use lib.Seq.{sets, getD-drop}
+use borrow.Author.Tests.{lt-ltb, le-ltb, ne-eqb, ltb-true, ltb-false}
+use Rattle.ground.specs.Choice.{pick}
+use Rattle.ground.specs.Regions.{zeros}
+use Rattle.ground.proofs.Bools.{bool-cases, never-both, and-true, and-first, and-second}
+use Rattle.ground.proofs.Rest.{rest-cons, rest-end, past-zero}
+use Rattle.ground.proofs.Tables.{at}
+use Rattle.lexis.specs.Bytes.{classFrom, classOf, isHex, isRaw, hexOf}
+use Rattle.lexis.specs.Pieces.{Str, whole, broken, prefixed, stringFrom, bytesIn, decoded}
+
+-- a hexadecimal digit below 58 is `0` to `9`, and one from there on `a` to `f`
+abbrev valued : ℕ → Bool
+valued b = pick (ltb b 58) (leb 48 b && eqb (hexOf b) (b - 48)) ((leb 87 b && leb b 102) && eqb (hexOf b) (b - 87))
+
+hex-valued : (b : ℕ) → b < 256 → isHex b ≡ true → T (valued b)
+unfolding classOf classFrom zeros
+hex-valued b h e = rw e at (at (λ k x. not (isHex k) || valued k) (zeros 256) 0 tt b h)
+
+module _ (b : ℕ) (h : b < 256) (e : isHex b ≡ true) where
+  pub hex-low : b < 58 → (48 ≤ b) × (hexOf b ≡ b - 48)
+  hex-low l =
+      let t : T (leb 48 b && eqb (hexOf b) (b - 48)) = rw (lt-ltb b 58 l) at (hex-valued b h e) in
+      (leb→le 48 b (and-first (leb 48 b) _ t), eqb→eq (hexOf b) (b - 48) (and-second (leb 48 b) _ t))
+
+  pub hex-high : 58 ≤ b → (87 ≤ b) × (b ≤ 102) × (hexOf b ≡ b - 87)
+  hex-high l =
+      let t : T ((leb 87 b && leb b 102) && eqb (hexOf b) (b - 87)) = rw (le-ltb b 58 l) at (hex-valued b h e) in
+      let u = and-first (leb 87 b && leb b 102) _ t in
+      (leb→le 87 b (and-first (leb 87 b) _ u), leb→le b 102 (and-second (leb 87 b) _ u), eqb→eq (hexOf b) (b - 87) (and-second (leb 87 b && leb b 102) _ t))
+
+-- a digit that is read stands in the text, since 0 is read past the end
+pub hex-inside : (s : List ℕ) (k : ℕ) → isHex (getD s k 0) ≡ true → k < length s
+unfolding classOf classFrom
+hex-inside s k e = bool-cases (ltb k (length s)) (λ l. ltb-true k (length s) l)
+    (λ l. never-both (rw (past-zero s k (ltb-false k (length s) l)) at e) refl)
+
+-- a string that means a byte before the others is whole
+prefixed-bytes : (b : ℕ) (x : Str) → 0 < length (bytesIn (prefixed b x)) → bytesIn (prefixed b x) ≡ b ∷ bytesIn x
+prefixed-bytes b (whole bs e) h = refl
+prefixed-bytes b broken h = absurd (omega arith)
+
+-- a byte that begins no escape
+raw-byte : (b : ℕ) (s : List ℕ) (k : ℕ) → 0 < length (bytesIn (stringFrom (b ∷ s) 0 k)) → (b ≡ 92 → ⊥) → bytesIn (stringFrom (b ∷ s) 0 k) ≡ b ∷ bytesIn (stringFrom s 0 (k + 1))
+unfolding stringFrom
+raw-byte b s k h f = bool-cases (eqb b 34)
+    (λ q. let z : 0 < 0 = rw (q, stringFrom) at h in absurd (omega arith))
+    (λ q. bool-cases (isRaw b)
+    (λ r. rw (q, ne-eqb b 92 f, r, stringFrom) (prefixed-bytes b (stringFrom s 0 (k + 1)) (rw (q, ne-eqb b 92 f, r, stringFrom) at h)))
+    (λ r. let z : 0 < 0 = rw (q, ne-eqb b 92 f, r, stringFrom) at h in absurd (omega arith)))
+
+-- the rest behind the backslash of an escape
+module _ (s : List ℕ) (k : ℕ) (h : 0 < length (bytesIn (stringFrom (92 ∷ s) 0 k))) where
+  escape-digits : isHex (getD s 0 0) && isHex (getD s 1 0) ≡ true
+  unfolding stringFrom
+  escape-digits = bool-cases (isHex (getD s 0 0) && isHex (getD s 1 0)) (λ x. x)
+      (λ x. let z : 0 < 0 = rw (x, stringFrom) at h in absurd (omega arith))
+
+  escape-byte : bytesIn (stringFrom (92 ∷ s) 0 k) ≡ (hexOf (getD s 0 0) * 16 + hexOf (getD s 1 0)) ∷ bytesIn (stringFrom s 2 (k + 1))
+  unfolding stringFrom
+  escape-byte = rw (escape-digits, stringFrom) (prefixed-bytes _ (stringFrom s 2 (k + 1)) (rw (escape-digits, stringFrom) at h))
+
+skip : (s : List ℕ) (n k : ℕ) → k < length s → stringFrom (drop k s) (suc n) k ≡ stringFrom (drop (k + 1) s) n (k + 1)
+unfolding stringFrom
+skip s n k h = rw (rest-cons s k h)
+
+-- a place of the text at which a string means one more byte
+module _ (s : List ℕ) (i : ℕ) (h : 0 < length (decoded s i)) where
+  pub meant-inside : i < length s
+  unfolding stringFrom
+  meant-inside = bool-cases (ltb i (length s)) (λ l. ltb-true i (length s) l)
+      (λ l. let z : 0 < 0 = rw (rest-end s i (ltb-false i (length s) l)) at h in absurd (omega arith))
+
+  -- a byte that begins no escape means itself
+  pub raw-meant : (getD s i 0 ≡ 92 → ⊥) → decoded s i ≡ getD s i 0 ∷ decoded s (i + 1)
+  raw-meant f = let e = rest-cons s i meant-inside in rw e (raw-byte (getD s i 0) (drop (i + 1) s) i (rw e at h) f)
+
+  module _ (f : getD s i 0 ≡ 92) where
+    rest : drop i s ≡ 92 ∷ drop (i + 1) s
+    rest = rest-cons s i meant-inside ∙ ap (λ (b : ℕ). b ∷ drop (i + 1) s) f
+
+    first : getD (drop (i + 1) s) 0 0 ≡ getD s (i + 1) 0
+    first = getD-drop (i + 1) s 0 0 ∙ rw add-zero
+
+    second : getD (drop (i + 1) s) 1 0 ≡ getD s (i + 2) 0
+    second = let e : i + 1 + 1 ≡ i + 2 = omega arith in getD-drop (i + 1) s 1 0 ∙ ap (λ (k : ℕ). getD s k 0) e
+
+    digits : (isHex (getD (drop (i + 1) s) 0 0) ≡ true) × (isHex (getD (drop (i + 1) s) 1 0) ≡ true)
+    digits = and-true _ _ (escape-digits (drop (i + 1) s) i (rw rest at h))
+
+    -- both of an escape's digits are there
+    pub escape-high : isHex (getD s (i + 1) 0) ≡ true
+    escape-high = ap isHex (sym first) ∙ digits .0
+
+    pub escape-low : isHex (getD s (i + 2) 0) ≡ true
+    escape-low = ap isHex (sym second) ∙ digits .1
+
+    pub escape-inside : i + 2 < length s
+    escape-inside = hex-inside s (i + 2) escape-low
+
+    -- and it means the byte that they make
+    pub escape-meant : decoded s i ≡ (hexOf (getD s (i + 1) 0) * 16 + hexOf (getD s (i + 2) 0)) ∷ decoded s (i + 3)
+    escape-meant =
+        let l : i + 2 < length s = escape-inside in
+        let three : i + 1 + 1 + 1 ≡ i + 3 = omega arith in
+        let past : stringFrom (drop (i + 1) s) 2 (i + 1) ≡ stringFrom (drop (i + 3) s) 0 (i + 3) =
+        skip s 1 (i + 1) (omega arith) ∙ skip s 0 (i + 1 + 1) (omega arith) ∙ ap (λ (k : ℕ). stringFrom (drop k s) 0 k) three in
+        rw rest (escape-byte (drop (i + 1) s) i (rw rest at h) ∙ rw (first, second, past))
+
+-- nothing is written where nothing is left
+pub sets-none : (l : List ℕ) (k : ℕ) (xs : List ℕ) → length xs ≡ 0 → sets l k xs ≡ l
+sets-none l k [] h = refl
+sets-none l k (x ∷ xs) h = absurd (omega arith)
