@@ -2,6 +2,7 @@
 // that the definitions of specs/ give. The form of declarations stands above it, the ground below.
 pub mod classes;
 pub mod decode;
+pub mod pieces;
 pub mod scan;
 
 use ground::Place;

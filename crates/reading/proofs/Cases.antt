@@ -9,7 +9,7 @@ use Rattle.ground.specs.Text.{bytes, same}
 use Rattle.kinds.specs.Kinds.{kindAt}
 use Rattle.lexis.specs.Bytes.{classFrom, classOf}
 use Rattle.lexis.specs.Whole.{tailOf, badFrom, endsInFeed, wholeOf}
-use Rattle.lexis.specs.Pieces.{spanEnd, commentEnd, insideEnd, digitsFrom, suffixAt, stringFrom}
+use Rattle.lexis.specs.Pieces.{spanEnd, commentEnd, insideEnd, digitsFrom, numeralAt, suffixAt, stringFrom, quotedAt}
 use Rattle.lexis.specs.Tokens.{metaOf, numberOf, constantOf, cellOf, ioOf, wordOf, longOf, follows, tokenFrom, tokenAt, insideAt}
 use Rattle.form.specs.Words.{numbered}
 use Rattle.form.specs.Parts.{concatFrom, operandAt, partsFrom, partsAt, setFrom, membersFrom}
@@ -175,5 +175,5 @@ cases =
     ∷ []
 
 decided : map (λ (c : Case). answerOf (reading (c .text))) cases ≡ map (λ (c : Case). c .answer) cases
-unfolding every total joined zeros blank fits pad part bytes same kindAt classFrom classOf tailOf badFrom endsInFeed wholeOf spanEnd commentEnd insideEnd digitsFrom suffixAt stringFrom metaOf numberOf constantOf cellOf ioOf wordOf longOf follows tokenFrom tokenAt insideAt numbered concatFrom operandAt partsFrom partsAt setFrom membersFrom setForm sourceForm optionAt scopeForm identForm attrForm metaForm ioForm operandIf metaIf wiringForm namedForm cellForm bodyForm openForm formAt falling knownBits cut longest taken distinct namesAs roomy metasSound valid rowFrom copies operandRuns operandPieces added firstMisnamed lastMeta ruledOut declarationsFrom firstUnresolved netlistOf readSound reading
+unfolding every total joined zeros blank fits pad part bytes same kindAt classFrom classOf tailOf badFrom endsInFeed wholeOf spanEnd commentEnd insideEnd digitsFrom numeralAt suffixAt stringFrom quotedAt metaOf numberOf constantOf cellOf ioOf wordOf longOf follows tokenFrom tokenAt insideAt numbered concatFrom operandAt partsFrom partsAt setFrom membersFrom setForm sourceForm optionAt scopeForm identForm attrForm metaForm ioForm operandIf metaIf wiringForm namedForm cellForm bodyForm openForm formAt falling knownBits cut longest taken distinct namesAs roomy metasSound valid rowFrom copies operandRuns operandPieces added firstMisnamed lastMeta ruledOut declarationsFrom firstUnresolved netlistOf readSound reading
 decided = refl
