@@ -118,7 +118,7 @@ module _ (s : List ℕ) (i : ℕ) (h : i < length s) where
       let n : i + 1 + 1 ≡ i + 2 = omega arith in
       ap₂ (λ a b. isHex a && isHex b) (rw (getD-drop, m)) (rw (getD-drop, n))
 
-  skipped : stringFrom (drop (i + 1) s) 2 (i + 1) ≡ stringFrom (drop (i + 3) s) 0 (i + 3)
+  pub skipped : stringFrom (drop (i + 1) s) 2 (i + 1) ≡ stringFrom (drop (i + 3) s) 0 (i + 3)
   skipped =
       let n : i + 1 + 1 + 1 ≡ i + 3 = omega arith in
       string-skip s 1 (i + 1) ∙ string-skip s 0 (i + 1 + 1) ∙ ap (λ (k : ℕ). stringFrom (drop k s) 0 k) n

@@ -1,5 +1,5 @@
 -- Strings: what a byte of a string that means one more stands for, and the values of hexadecimal digits.
-use Prim.Native.Nat.{ℕ, suc, _+_, _-_, _*_, _<_, _≤_}
+use Prim.Native.Nat.{ℕ, _+_, _-_, _*_, _<_, _≤_}
 use mathlib.Core.Path.{_≡_, refl, sym, ap, _∙_}
 use mathlib.Core.Bool.{Bool, true, not, _&&_, _||_}
 use mathlib.Core.List.{List, [], _∷_}
@@ -12,10 +12,14 @@ use borrow.Author.Tests.{lt-ltb, le-ltb, ne-eqb, ltb-true, ltb-false}
 use Rattle.ground.specs.Choice.{pick}
 use Rattle.ground.specs.Regions.{zeros}
 use Rattle.ground.proofs.Bools.{bool-cases, never-both, and-true, and-first, and-second}
+use Rattle.ground.proofs.Outcome.{any-two}
 use Rattle.ground.proofs.Rest.{rest-cons, rest-end, past-zero}
 use Rattle.ground.proofs.Tables.{at}
 use Rattle.lexis.specs.Bytes.{classFrom, classOf, isHex, isRaw, hexOf}
-use Rattle.lexis.specs.Pieces.{Str, whole, broken, prefixed, stringFrom, bytesIn, decoded}
+use Rattle.lexis.specs.Pieces.{Str, whole, broken, prefixed, stringFrom, bytesIn, decoded, sized}
+use Rattle.lexis.specs.Decoding.{Decoding, decodedInto}
+use Rattle.lexis.specs.declared.pieces.Quoted.the-variants.{Closed, Malformed}
+use Rattle.lexis.proofs.Laws.{skipped}
 
 -- a hexadecimal digit below 58 is `0` to `9`, and one from there on `a` to `f`
 abbrev valued : ℕ → Bool
@@ -68,10 +72,6 @@ module _ (s : List ℕ) (k : ℕ) (h : 0 < length (bytesIn (stringFrom (92 ∷ s
   unfolding stringFrom
   escape-byte = rw (escape-digits, stringFrom) (prefixed-bytes _ (stringFrom s 2 (k + 1)) (rw (escape-digits, stringFrom) at h))
 
-skip : (s : List ℕ) (n k : ℕ) → k < length s → stringFrom (drop k s) (suc n) k ≡ stringFrom (drop (k + 1) s) n (k + 1)
-unfolding stringFrom
-skip s n k h = rw (rest-cons s k h)
-
 -- a place of the text at which a string means one more byte
 module _ (s : List ℕ) (i : ℕ) (h : 0 < length (decoded s i)) where
   pub meant-inside : i < length s
@@ -108,14 +108,22 @@ module _ (s : List ℕ) (i : ℕ) (h : 0 < length (decoded s i)) where
 
     -- and it means the byte that they make
     pub escape-meant : decoded s i ≡ (hexOf (getD s (i + 1) 0) * 16 + hexOf (getD s (i + 2) 0)) ∷ decoded s (i + 3)
-    escape-meant =
-        let l : i + 2 < length s = escape-inside in
-        let three : i + 1 + 1 + 1 ≡ i + 3 = omega arith in
-        let past : stringFrom (drop (i + 1) s) 2 (i + 1) ≡ stringFrom (drop (i + 3) s) 0 (i + 3) =
-        skip s 1 (i + 1) (omega arith) ∙ skip s 0 (i + 1 + 1) (omega arith) ∙ ap (λ (k : ℕ). stringFrom (drop k s) 0 k) three in
-        rw rest (escape-byte (drop (i + 1) s) i (rw rest at h) ∙ rw (first, second, past))
+    escape-meant = rw rest (escape-byte (drop (i + 1) s) i (rw rest at h) ∙ rw (first, second, skipped s i meant-inside))
+
+-- how many bytes a string means is its size, and none where it is malformed
+pub closed-size : (x : Str) (n e : ℕ) → Closed n e ≡ sized x → n ≡ length (bytesIn x)
+closed-size (whole bs k) n e h = cc
+closed-size broken n e h = let z : _≡_ {A = ℕ} 0 1 = cc in absurd (omega arith)
+
+pub malformed-size : (x : Str) → Malformed ≡ sized x → 0 ≡ length (bytesIn x)
+malformed-size (whole bs k) h = let z : _≡_ {A = ℕ} 0 1 = cc in absurd (omega arith)
+malformed-size broken h = refl
 
 -- nothing is written where nothing is left
 pub sets-none : (l : List ℕ) (k : ℕ) (xs : List ℕ) → length xs ≡ 0 → sets l k xs ≡ l
 sets-none l k [] h = refl
 sets-none l k (x ∷ xs) h = absurd (omega arith)
+
+-- the contract of `decode` allows one outcome
+pub decode-decided : (text : List ℕ) (from : ℕ) (room : List ℕ) (o p : Decoding) → o ≡ decodedInto text from room → p ≡ decodedInto text from room → o ≡ p
+decode-decided text from = any-two (decodedInto text from)

@@ -3,3 +3,4 @@ pub mod Whole
 pub mod Pieces
 pub mod Tokens
 pub mod Modes
+pub mod Decoding

@@ -5,8 +5,11 @@ ghost use mathlib.Core.List.{_∷_};
 ghost use Prim.Native.Nat.{_<_};
 ghost use lib.ListN.{length, set};
 ghost use lib.Seq.{sets};
-ghost use Rattle.lexis.specs.Bytes.{isHex, hexOf};
+ghost use Rattle.lexis.specs.Bytes.{table, isHex, hexOf};
 ghost use Rattle.lexis.specs.Pieces.{decoded};
+ghost use Rattle.lexis.specs.Decoding.{seen, decodedInto};
+use super::pieces::Quoted;
+use super::pieces::quoted_at;
 
 // A byte of a string, and the place past what is written for it.
 struct Meant {
@@ -63,4 +66,25 @@ fn fill(text: &[u8], from: usize, size: usize, room: &mut [u8])
         i = next.end;
         done += 1;
     }
+}
+
+// How many bytes the string means: none where it is malformed.
+fn size_of(t: &[u8; 256], text: &[u8], from: usize) -> usize
+    requires { ⌜ now t ≡ table ⌝ }
+    ensures { λ r. ⌜ r ≡ length (decoded (now (text .entry)) from) ⌝ }
+{
+    match quoted_at(t, text, from) {
+        Quoted::Closed { size, .. } => size,
+        Quoted::Malformed => 0,
+    }
+}
+
+// The bytes that the string behind the opening quote means, into the room, and how many they are.
+pub fn decode(t: &[u8; 256], text: &[u8], from: usize, room: &mut [u8]) -> usize
+    requires { ⌜ now t ≡ table ⌝ }
+    ensures { λ r. ⌜ seen r (now (room .exit)) ≡ decodedInto (now (text .entry)) from (now (room .entry)) ⌝ }
+{
+    let size = size_of(t, text, from);
+    fill(text, from, size, room);
+    size
 }
