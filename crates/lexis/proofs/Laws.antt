@@ -1,5 +1,5 @@
 -- How the definitions of the pieces go on at a byte of the text, and how they end.
-use mathlib.Core.Path.{_≡_, refl, sym, _∙_, ap, ap₂}
+use mathlib.Core.Path.{_≡_, refl, sym, _∙_, ap}
 use mathlib.Core.Bool.{Bool, true, false, not, _&&_}
 use mathlib.Core.List.{List, [], _∷_}
 use Prim.Native.Nat.{ℕ, zero, suc, _+_, _-_, _*_, _<_, _≤_}
@@ -107,47 +107,46 @@ string-skip s skip i = bool-cases (ltb i (length s))
     (λ e. rw (rest-cons s i (ltb-true _ _ e)))
     (λ e. let h : length s ≤ i = ltb-false _ _ e in string-past s (suc skip) i h ∙ sym (string-past s skip (i + 1) (omega arith)))
 
-module _ (s : List ℕ) (i : ℕ) (h : i < length s) where
-  closing : eqb (getD s i 0) 34 ≡ true → sized (stringFrom (drop i s) 0 i) ≡ Closed 0 (i + 1)
-  unfolding stringFrom
-  closing o = rw (rest-cons s i h, o, stringFrom)
+module _ (s : List ℕ) (i : ℕ) where
+  first-behind : getD (drop (i + 1) s) 0 0 ≡ getD s (i + 1) 0
+  first-behind = let m : i + 1 + 0 ≡ i + 1 = omega arith in rw (getD-drop, m)
 
-  hexes : isHex (getD (drop (i + 1) s) 0 0) && isHex (getD (drop (i + 1) s) 1 0) ≡ isHex (getD s (i + 1) 0) && isHex (getD s (i + 2) 0)
-  hexes =
-      let m : i + 1 + 0 ≡ i + 1 = omega arith in
-      let n : i + 1 + 1 ≡ i + 2 = omega arith in
-      ap₂ (λ a b. isHex a && isHex b) (rw (getD-drop, m)) (rw (getD-drop, n))
+  second-behind : getD (drop (i + 1) s) 1 0 ≡ getD s (i + 2) 0
+  second-behind = let n : i + 1 + 1 ≡ i + 2 = omega arith in rw (getD-drop, n)
 
-  pub skipped : stringFrom (drop (i + 1) s) 2 (i + 1) ≡ stringFrom (drop (i + 3) s) 0 (i + 3)
+  skipped : stringFrom (drop (i + 1) s) 2 (i + 1) ≡ stringFrom (drop (i + 3) s) 0 (i + 3)
   skipped =
       let n : i + 1 + 1 + 1 ≡ i + 3 = omega arith in
       string-skip s 1 (i + 1) ∙ string-skip s 0 (i + 1 + 1) ∙ ap (λ (k : ℕ). stringFrom (drop k s) 0 k) n
 
-  escape : (v : Bool) → eqb (getD s i 0) 34 ≡ false → eqb (getD s i 0) 92 ≡ true → isHex (getD s (i + 1) 0) && isHex (getD s (i + 2) 0) ≡ v
-      → sized (stringFrom (drop i s) 0 i) ≡ pick v (counted 1 (sized (stringFrom (drop (i + 3) s) 0 (i + 3)))) Malformed
+-- a string at a byte of the text: its end, an escape, a raw byte
+module _ (s : List ℕ) (i : ℕ) (h : i < length s) where
+  pub string-close : eqb (getD s i 0) 34 ≡ true → stringFrom (drop i s) 0 i ≡ whole [] (i + 1)
   unfolding stringFrom
-  escape true o e p = rw (rest-cons s i h, o, e, hexes ∙ p, stringFrom) (
-      sized-more (hexOf (getD (drop (i + 1) s) 0 0) * 16 + hexOf (getD (drop (i + 1) s) 1 0)) (stringFrom (drop (i + 1) s) 2 (i + 1))
-      ∙ ap (λ q. counted 1 (sized q)) skipped
-      )
-  escape false o e p = rw (rest-cons s i h, o, e, hexes ∙ p, stringFrom)
+  string-close o = rw (rest-cons s i h, o, stringFrom)
 
-  raw : (v : Bool) → eqb (getD s i 0) 34 ≡ false → eqb (getD s i 0) 92 ≡ false → isRaw (getD s i 0) ≡ v
-      → sized (stringFrom (drop i s) 0 i) ≡ pick v (counted 1 (sized (stringFrom (drop (i + 1) s) 0 (i + 1)))) Malformed
+  pub string-escape : (v : Bool) → eqb (getD s i 0) 34 ≡ false → eqb (getD s i 0) 92 ≡ true → isHex (getD s (i + 1) 0) && isHex (getD s (i + 2) 0) ≡ v
+      → stringFrom (drop i s) 0 i ≡ pick v (prefixed (hexOf (getD s (i + 1) 0) * 16 + hexOf (getD s (i + 2) 0)) (stringFrom (drop (i + 3) s) 0 (i + 3))) broken
   unfolding stringFrom
-  raw true o e p = rw (rest-cons s i h, o, e, p, stringFrom) (sized-more (getD s i 0) (stringFrom (drop (i + 1) s) 0 (i + 1)))
-  raw false o e p = rw (rest-cons s i h, o, e, p, stringFrom)
+  string-escape true o e p = rw (rest-cons s i h, o, e, first-behind s i, second-behind s i, p, skipped s i, stringFrom) (rw (first-behind s i, second-behind s i))
+  string-escape false o e p = rw (rest-cons s i h, o, e, first-behind s i, second-behind s i, p, stringFrom)
+
+  pub string-raw : (v : Bool) → eqb (getD s i 0) 34 ≡ false → eqb (getD s i 0) 92 ≡ false → isRaw (getD s i 0) ≡ v
+      → stringFrom (drop i s) 0 i ≡ pick v (prefixed (getD s i 0) (stringFrom (drop (i + 1) s) 0 (i + 1))) broken
+  unfolding stringFrom
+  string-raw true o e p = rw (rest-cons s i h, o, e, p, stringFrom)
+  string-raw false o e p = rw (rest-cons s i h, o, e, p, stringFrom)
 
   -- the next byte of a string takes n bytes of the text
   next : (n : ℕ) → eqb (getD s i 0) 34 ≡ false → n ≡ takenAt s i
       → sized (stringFrom (drop i s) 0 i) ≡ pick (eqb n 0) Malformed (counted 1 (sized (stringFrom (drop (i + n) s) 0 (i + n))))
   next n o t = bool-cases (eqb (getD s i 0) 92)
       (λ e. bool-cases (isHex (getD s (i + 1) 0) && isHex (getD s (i + 2) 0))
-      (λ p. rw (t, e, p) (escape true o e p))
-      (λ p. rw (t, e, p) (escape false o e p)))
+      (λ p. rw (t, e, p) (ap sized (string-escape true o e p) ∙ sized-more (hexOf (getD s (i + 1) 0) * 16 + hexOf (getD s (i + 2) 0)) (stringFrom (drop (i + 3) s) 0 (i + 3))))
+      (λ p. rw (t, e, p) (ap sized (string-escape false o e p))))
       (λ e. bool-cases (isRaw (getD s i 0))
-      (λ p. rw (t, e, p) (raw true o e p))
-      (λ p. rw (t, e, p) (raw false o e p)))
+      (λ p. rw (t, e, p) (ap sized (string-raw true o e p) ∙ sized-more (getD s i 0) (stringFrom (drop (i + 1) s) 0 (i + 1))))
+      (λ p. rw (t, e, p) (ap sized (string-raw false o e p))))
 
 -- the string of which m bytes are read, and what is left of it stands at the place i
 unfoldable pub quotedFrom : ℕ → List ℕ → ℕ → Quoted
@@ -164,7 +163,7 @@ quoted-end m s i h = rw (string-past s 0 i h)
 module _ (m : ℕ) (s : List ℕ) (i : ℕ) (h : i < length s) where
   pub quoted-close : eqb (getD s i 0) 34 ≡ true → quotedFrom m s i ≡ Closed m (i + 1)
   unfolding quotedFrom
-  quoted-close o = rw (closing s i h o, add-zero)
+  quoted-close o = rw (string-close s i h o, add-zero)
 
   pub quoted-stop : (n : ℕ) → eqb (getD s i 0) 34 ≡ false → n ≡ takenAt s i → eqb n 0 ≡ true → quotedFrom m s i ≡ Malformed
   unfolding quotedFrom

@@ -1,25 +1,24 @@
 -- Strings: what a byte of a string that means one more stands for, and the values of hexadecimal digits.
 use Prim.Native.Nat.{ℕ, _+_, _-_, _*_, _<_, _≤_}
-use mathlib.Core.Path.{_≡_, refl, sym, ap, _∙_}
-use mathlib.Core.Bool.{Bool, true, not, _&&_, _||_}
+use mathlib.Core.Path.{_≡_, refl, ap, _∙_}
+use mathlib.Core.Bool.{Bool, true, false, not, _&&_, _||_}
 use mathlib.Core.List.{List, [], _∷_}
 use native.Mathlib.Omega.{arith}
-use native.Mathlib.Nat.{add-zero}
 use lib.Dec.{T, eqb, ltb, leb, eqb→eq, leb→le}
-use lib.ListN.{length, drop, getD}
-use lib.Seq.{sets, getD-drop}
-use borrow.Author.Tests.{lt-ltb, le-ltb, ne-eqb, ltb-true, ltb-false}
+use lib.ListN.{length, getD}
+use lib.Seq.{sets}
+use borrow.Author.Tests.{lt-ltb, le-ltb, eq-eqb, ne-eqb, ltb-true, ltb-false}
 use Rattle.ground.specs.Choice.{pick}
 use Rattle.ground.specs.Regions.{zeros}
 use Rattle.ground.proofs.Bools.{bool-cases, never-both, and-true, and-first, and-second}
 use Rattle.ground.proofs.Outcome.{any-two}
-use Rattle.ground.proofs.Rest.{rest-cons, rest-end, past-zero}
+use Rattle.ground.proofs.Rest.{rest-end, past-zero}
 use Rattle.ground.proofs.Tables.{at}
 use Rattle.lexis.specs.Bytes.{classFrom, classOf, isHex, isRaw, hexOf}
-use Rattle.lexis.specs.Pieces.{Str, whole, broken, prefixed, stringFrom, bytesIn, decoded, sized}
+use Rattle.lexis.specs.Pieces.{Str, whole, broken, prefixed, stringFrom, stringAt, bytesIn, decoded, sized}
 use Rattle.lexis.specs.Decoding.{Decoding, decodedInto}
 use Rattle.lexis.specs.declared.pieces.Quoted.the-variants.{Closed, Malformed}
-use Rattle.lexis.proofs.Laws.{skipped}
+use Rattle.lexis.proofs.Laws.{string-close, string-escape, string-raw}
 
 -- a hexadecimal digit below 58 is `0` to `9`, and one from there on `a` to `f`
 abbrev valued : ℕ → Bool
@@ -52,26 +51,6 @@ prefixed-bytes : (b : ℕ) (x : Str) → 0 < length (bytesIn (prefixed b x)) →
 prefixed-bytes b (whole bs e) h = refl
 prefixed-bytes b broken h = absurd (omega arith)
 
--- a byte that begins no escape
-raw-byte : (b : ℕ) (s : List ℕ) (k : ℕ) → 0 < length (bytesIn (stringFrom (b ∷ s) 0 k)) → (b ≡ 92 → ⊥) → bytesIn (stringFrom (b ∷ s) 0 k) ≡ b ∷ bytesIn (stringFrom s 0 (k + 1))
-unfolding stringFrom
-raw-byte b s k h f = bool-cases (eqb b 34)
-    (λ q. let z : 0 < 0 = rw (q, stringFrom) at h in absurd (omega arith))
-    (λ q. bool-cases (isRaw b)
-    (λ r. rw (q, ne-eqb b 92 f, r, stringFrom) (prefixed-bytes b (stringFrom s 0 (k + 1)) (rw (q, ne-eqb b 92 f, r, stringFrom) at h)))
-    (λ r. let z : 0 < 0 = rw (q, ne-eqb b 92 f, r, stringFrom) at h in absurd (omega arith)))
-
--- the rest behind the backslash of an escape
-module _ (s : List ℕ) (k : ℕ) (h : 0 < length (bytesIn (stringFrom (92 ∷ s) 0 k))) where
-  escape-digits : isHex (getD s 0 0) && isHex (getD s 1 0) ≡ true
-  unfolding stringFrom
-  escape-digits = bool-cases (isHex (getD s 0 0) && isHex (getD s 1 0)) (λ x. x)
-      (λ x. let z : 0 < 0 = rw (x, stringFrom) at h in absurd (omega arith))
-
-  escape-byte : bytesIn (stringFrom (92 ∷ s) 0 k) ≡ (hexOf (getD s 0 0) * 16 + hexOf (getD s 1 0)) ∷ bytesIn (stringFrom s 2 (k + 1))
-  unfolding stringFrom
-  escape-byte = rw (escape-digits, stringFrom) (prefixed-bytes _ (stringFrom s 2 (k + 1)) (rw (escape-digits, stringFrom) at h))
-
 -- a place of the text at which a string means one more byte
 module _ (s : List ℕ) (i : ℕ) (h : 0 < length (decoded s i)) where
   pub meant-inside : i < length s
@@ -79,36 +58,35 @@ module _ (s : List ℕ) (i : ℕ) (h : 0 < length (decoded s i)) where
   meant-inside = bool-cases (ltb i (length s)) (λ l. ltb-true i (length s) l)
       (λ l. let z : 0 < 0 = rw (rest-end s i (ltb-false i (length s) l)) at h in absurd (omega arith))
 
+  unclosed : eqb (getD s i 0) 34 ≡ false
+  unclosed = bool-cases (eqb (getD s i 0) 34) (λ q. let z : 0 < 0 = rw (string-close s i meant-inside q) at h in absurd (omega arith)) (λ q. q)
+
   -- a byte that begins no escape means itself
   pub raw-meant : (getD s i 0 ≡ 92 → ⊥) → decoded s i ≡ getD s i 0 ∷ decoded s (i + 1)
-  raw-meant f = let e = rest-cons s i meant-inside in rw e (raw-byte (getD s i 0) (drop (i + 1) s) i (rw e at h) f)
+  raw-meant f = bool-cases (isRaw (getD s i 0))
+      (λ r. let e = string-raw s i meant-inside true unclosed (ne-eqb _ 92 f) r in ap bytesIn e ∙ prefixed-bytes (getD s i 0) (stringAt s (i + 1)) (rw e at h))
+      (λ r. let z : 0 < 0 = rw (string-raw s i meant-inside false unclosed (ne-eqb _ 92 f) r) at h in absurd (omega arith))
 
   module _ (f : getD s i 0 ≡ 92) where
-    rest : drop i s ≡ 92 ∷ drop (i + 1) s
-    rest = rest-cons s i meant-inside ∙ ap (λ (b : ℕ). b ∷ drop (i + 1) s) f
-
-    first : getD (drop (i + 1) s) 0 0 ≡ getD s (i + 1) 0
-    first = getD-drop (i + 1) s 0 0 ∙ rw add-zero
-
-    second : getD (drop (i + 1) s) 1 0 ≡ getD s (i + 2) 0
-    second = let e : i + 1 + 1 ≡ i + 2 = omega arith in getD-drop (i + 1) s 1 0 ∙ ap (λ (k : ℕ). getD s k 0) e
-
-    digits : (isHex (getD (drop (i + 1) s) 0 0) ≡ true) × (isHex (getD (drop (i + 1) s) 1 0) ≡ true)
-    digits = and-true _ _ (escape-digits (drop (i + 1) s) i (rw rest at h))
+    digits : isHex (getD s (i + 1) 0) && isHex (getD s (i + 2) 0) ≡ true
+    digits = bool-cases (isHex (getD s (i + 1) 0) && isHex (getD s (i + 2) 0)) (λ p. p)
+        (λ p. let z : 0 < 0 = rw (string-escape s i meant-inside false unclosed (eq-eqb _ 92 f) p) at h in absurd (omega arith))
 
     -- both of an escape's digits are there
     pub escape-high : isHex (getD s (i + 1) 0) ≡ true
-    escape-high = ap isHex (sym first) ∙ digits .0
+    escape-high = and-true (isHex (getD s (i + 1) 0)) _ digits .0
 
     pub escape-low : isHex (getD s (i + 2) 0) ≡ true
-    escape-low = ap isHex (sym second) ∙ digits .1
+    escape-low = and-true (isHex (getD s (i + 1) 0)) _ digits .1
 
     pub escape-inside : i + 2 < length s
     escape-inside = hex-inside s (i + 2) escape-low
 
     -- and it means the byte that they make
     pub escape-meant : decoded s i ≡ (hexOf (getD s (i + 1) 0) * 16 + hexOf (getD s (i + 2) 0)) ∷ decoded s (i + 3)
-    escape-meant = rw rest (escape-byte (drop (i + 1) s) i (rw rest at h) ∙ rw (first, second, skipped s i meant-inside))
+    escape-meant =
+        let e = string-escape s i meant-inside true unclosed (eq-eqb _ 92 f) digits in
+        ap bytesIn e ∙ prefixed-bytes _ (stringAt s (i + 3)) (rw e at h)
 
 -- how many bytes a string means is its size, and none where it is malformed
 pub closed-size : (x : Str) (n e : ℕ) → Closed n e ≡ sized x → n ≡ length (bytesIn x)
