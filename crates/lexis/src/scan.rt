@@ -1,7 +1,7 @@
 // The whole text in one pass: its length, its bytes, its end.
 ghost use mathlib.Core.Path.{_≡_};
 ghost use mathlib.Core.List.{_∷_};
-ghost use Prim.Native.Nat.{_<_};
+ghost use Prim.Native.Nat.{_<_, _≤_};
 ghost use Rattle.lexis.specs.Bytes.{range};
 ghost use Rattle.lexis.specs.Whole.{sequences, tailOf, lacksPast, beganAt, unsound, wholeOf};
 ghost use Rattle.lexis.specs.Modes.{lacking, meant};
@@ -9,19 +9,11 @@ use super::Whole;
 use ground::Place;
 use ground::Refusal;
 
-// The mode past the first byte of a sequence. The bytes that are a sequence by themselves come first: most texts have no others.
-fn lead(b: u8) -> u8
+// The mode past a first byte that is not ASCII.
+fn long_lead(b: u8) -> u8
+    requires { ⌜ 0x80 ≤ b ⌝ }
     ensures { λ r. ⌜ meant r ≡ tailOf sequences b ⌝ }
 {
-    if b < 0x0d {
-        return 0;
-    }
-    if b == 0x0d {
-        return 8;
-    }
-    if b < 0x80 {
-        return 0;
-    }
     if b < 0xc2 {
         return 9;
     }
@@ -50,6 +42,22 @@ fn lead(b: u8) -> u8
         return 7;
     }
     9
+}
+
+// The mode past the first byte of a sequence. ASCII comes first: most texts have nothing else.
+fn lead(b: u8) -> u8
+    ensures { λ r. ⌜ meant r ≡ tailOf sequences b ⌝ }
+{
+    if b < 0x0d {
+        return 0;
+    }
+    if b == 0x0d {
+        return 8;
+    }
+    if b < 0x80 {
+        return 0;
+    }
+    long_lead(b)
 }
 
 // The mode past a byte that has to lie from `low` to `high`, where `next` stands for what is lacking then.
