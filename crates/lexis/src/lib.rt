@@ -2,6 +2,7 @@
 // that the definitions of specs/ give. The form of declarations stands above it, the ground below.
 pub mod classes;
 pub mod pieces;
+pub mod tokens;
 
 use ground::Place;
 use ground::Refusal;
