@@ -130,5 +130,5 @@ module _ (s : List ℕ) where
     whole-unfed l f = whole-end false (ends-in s l ∙ ne-eqb _ _ f)
 
 -- the contract of `whole` allows one outcome
-pub whole-decided : (text : List ℕ) (o p : Whole) → o ≡ wholeOf text → p ≡ wholeOf text → o ≡ p
-whole-decided = any-two wholeOf
+pub whole-one : (text : List ℕ) (o p : Whole) → o ≡ wholeOf text → p ≡ wholeOf text → o ≡ p
+whole-one = any-two wholeOf

@@ -103,5 +103,5 @@ sets-none l k [] h = refl
 sets-none l k (x ∷ xs) h = absurd (omega arith)
 
 -- the contract of `decode` allows one outcome
-pub decode-decided : (text : List ℕ) (from : ℕ) (room : List ℕ) (o p : Decoding) → o ≡ decodedInto text from room → p ≡ decodedInto text from room → o ≡ p
-decode-decided text from = any-two (decodedInto text from)
+pub decode-one : (text : List ℕ) (from : ℕ) (room : List ℕ) (o p : Decoding) → o ≡ decodedInto text from room → p ≡ decodedInto text from room → o ≡ p
+decode-one text from = any-two (decodedInto text from)

@@ -77,27 +77,31 @@ token sort k value from size parts offset width count =
 abbrev pub took : Token → ℕ → Step
 took t k = Took t (record { next = at k })
 
+abbrev pub refused : ℕ → ℕ → Step
+refused n k = Refused (refusal n (at k))
+
 -- a token without parts
 abbrev pub plain : ℕ → ℕ → ℕ → ℕ → ℕ → Token
 plain sort k value from size = token sort k value from size 0 0 0 0
 
 -- the token at the place k, 5 where it is malformed, 6 where a number in it is too large
 abbrev pub judged : Bool → Bool → ℕ → Step → Step
-judged malformed large k s = pick malformed (Refused (refusal 5 (at k))) (pick large (Refused (refusal 6 (at k))) s)
+judged malformed large k s = pick malformed (refused 5 k) (pick large (refused 6 k) s)
+
+-- a token that is one numeral, whose digits begin at `from`: the value means it, and the token ends at `end`
+abbrev pub single : ℕ → ℕ → ℕ → Numeral → ℕ → ℕ → Step
+single sort k from i value end = judged (eqb (i .end) from) (i .large) k (took (plain sort k value 0 0) end)
 
 -- 001, Metadata identifiers: `!` and digits
 unfoldable pub metaOf : List ℕ → ℕ → Step
-metaOf text k =
-    let i = numeralAt partLimit text (k + 1) in
-    judged (eqb (i .end) (k + 1)) (i .large) k (took (plain meta k (i .value) 0 0) (i .end))
+metaOf text k = let i = numeralAt partLimit text (k + 1) in single meta k (k + 1) i (i .value) (i .end)
 
 -- 001, Decimal numbers: `#`, an optional `-`, digits. Document 01, Text: "-2,147,483,648 to 2,147,483,647"
 abbrev pub signedOf : Bool → ℕ → ℕ
 signedOf minus n = pick (minus && ltb 0 n) (4294967296 - n) n
 
 abbrev pub numberFrom : Bool → Numeral → ℕ → ℕ → Step
-numberFrom minus i from k =
-    judged (eqb (i .end) from) (i .large) k (took (plain number k (signedOf minus (i .value)) 0 0) (i .end))
+numberFrom minus i from k = single number k from i (signedOf minus (i .value)) (i .end)
 
 unfoldable pub numberOf : List ℕ → ℕ → Step
 numberOf text k =
@@ -106,12 +110,13 @@ numberOf text k =
     (numberFrom false (numeralAt 2147483647 text (k + 1)) (k + 1) k)
 
 -- 001, Constants and Repetitions: trits, and `*` with a count behind them
-unfoldable pub constantOf : List ℕ → ℕ → Step
-constantOf text k =
-    let e = spanEnd isConstant (drop k text) k in
-    let c = suffixAt text 42 e in
+abbrev pub constantFrom : ℕ → ℕ → Suffix → Step
+constantFrom k e c =
     judged (c .broken) (c .large) k
     (took (token constant k 0 k (e - k) (written false false (c .given)) 0 0 (c .value)) (c .end))
+
+unfoldable pub constantOf : List ℕ → ℕ → Step
+constantOf text k = let e = spanEnd isConstant (drop k text) k in constantFrom k e (suffixAt text 42 e)
 
 -- 001, Cell identifiers and Repetitions: `%i`, `%i:w`, `%i+o`, `%i+o:w`, each with a count; a bit is 1 wide where no width is written
 abbrev pub cellFrom : ℕ → Numeral → Suffix → Suffix → Suffix → Step
@@ -121,8 +126,7 @@ cellFrom k i o w c =
     (took (token cell k (i .value) 0 0 (written (o .given) (w .given) (c .given)) (o .value) (pick (w .given) (w .value) 1) (c .value)) (c .end))
 
 abbrev pub placeholderFrom : ℕ → Numeral → Step
-placeholderFrom k i =
-    judged (eqb (i .end) (k + 1)) (i .large) k (took (plain placeholder k (i .value) 0 0) (i .end + 2))
+placeholderFrom k i = single placeholder k (k + 1) i (i .value) (i .end + 2)
 
 -- `:_` at the place
 abbrev pub opensPlaceholder : List ℕ → ℕ → Bool
@@ -144,7 +148,7 @@ ioFrom k size o w =
 
 abbrev pub namedFrom : List ℕ → ℕ → Quoted → Step
 namedFrom text k (Closed n e) = ioFrom k n (suffixAt text 43 e) (suffixAt text 58 e)
-namedFrom text k Malformed = Refused (refusal 5 (at k))
+namedFrom text k Malformed = refused 5 k
 
 abbrev pub floatingFrom : ℕ → Suffix → Step
 floatingFrom k w =
@@ -154,12 +158,12 @@ unfoldable pub ioOf : List ℕ → ℕ → Step
 ioOf text k =
     pick (eqb (getD text (k + 1) 0) 95) (floatingFrom k (suffixAt text 58 (k + 2)))
     (pick (eqb (getD text (k + 1) 0) 34) (namedFrom text k (quotedAt text (k + 2)))
-    (Refused (refusal 5 (at k))))
+    (refused 5 k))
 
 -- 001, Strings
 abbrev pub stringStep : ℕ → Quoted → Step
 stringStep k (Closed n e) = took (plain string k 0 (k + 1) n) e
-stringStep k Malformed = Refused (refusal 5 (at k))
+stringStep k Malformed = refused 5 k
 
 unfoldable pub wordOf : List ℕ → ℕ → Step
 wordOf text k = let e = spanEnd isLetter (drop k text) k in took (plain word k 0 k (e - k)) e
@@ -174,7 +178,7 @@ longOf text k b =
     (pick (eqb b 38) (ioOf text k)
     (pick (eqb b 37) (cellOf text k)
     (pick (eqb b 34) (stringStep k (quotedAt text (k + 1)))
-    (Refused (refusal 5 (at k)))))))))
+    (refused 5 k)))))))
 
 -- Document 01, Text: "Two tokens need white space between them unless one is `[ ] ( ) { } = ,`; else 5 at the second".
 -- A token at the place k follows on another where the byte before is neither white space nor a special character.
@@ -190,7 +194,7 @@ tokenFrom text k (b ∷ s) =
     (pick (eqb b 13) (took (plain lineEnd k 0 0 0) (k + 2))
     (pick (eqb b 59) (took (plain lineEnd k 0 0 0) (commentEnd s (k + 1)))
     (pick (isSpecial b) (took (plain mark k b 0 0) (k + 1))
-    (pick (follows text k) (Refused (refusal 5 (at k)))
+    (pick (follows text k) (refused 5 k)
     (longOf text k b)))))
 
 abbrev pub standingAt : List ℕ → ℕ → Step

@@ -4,6 +4,7 @@ pub mod classes;
 pub mod decode;
 pub mod pieces;
 pub mod scan;
+pub mod tokens;
 
 use ground::Place;
 use ground::Refusal;
