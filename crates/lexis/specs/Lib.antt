@@ -2,3 +2,5 @@ pub mod Bytes
 pub mod Whole
 pub mod Pieces
 pub mod Tokens
+pub mod Modes
+pub mod Decoding

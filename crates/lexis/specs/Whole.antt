@@ -16,10 +16,10 @@ pub record Sequence : Type 0 where
   pub lead : Range
   pub tail : List Range
 
-abbrev sequence : ℕ → ℕ → List Range → Sequence
+abbrev pub sequence : ℕ → ℕ → List Range → Sequence
 sequence a e t = record { lead = range a e; tail = t }
 
-abbrev more : Range
+abbrev pub more : Range
 more = range 0x80 0xbf
 
 -- RFC 3629, section 4, line by line; and document 01, Text: "CR is legal only before LF, in comments too", so CR LF is a sequence
@@ -37,12 +37,22 @@ unfoldable pub tailOf : List Sequence → ℕ → Option (List Range)
 tailOf [] b = none
 tailOf (q ∷ qs) b = elim (inRange (q .lead) b) [ true ↦ some (q .tail) | false ↦ tailOf qs b ]
 
+-- what is lacking past the byte b, where bytes in the ranges were; where nothing was, b begins a sequence. None where b may not stand there
+abbrev pub lacksPast : List Range → ℕ → Option (List Range)
+lacksPast [] b = tailOf sequences b
+lacksPast (r ∷ rs) b = pick (inRange r b) (some rs) none
+
+-- where the sequence of the byte at the place k began
+abbrev pub beganAt : List Range → ℕ → ℕ → ℕ
+beganAt [] from k = k
+beganAt (r ∷ rs) from k = from
+
 -- the place of the first bad sequence: the rest s at the place k, where the sequence that began at `from` still lacks bytes in the ranges
 unfoldable pub badFrom : List ℕ → List Range → ℕ → ℕ → Option ℕ
 badFrom [] [] from k = none
 badFrom [] (r ∷ rs) from k = some from
-badFrom (b ∷ s) [] from k = elim (tailOf sequences b) [ none ↦ some k | some rs ↦ badFrom s rs k (k + 1) ]
-badFrom (b ∷ s) (r ∷ rs) from k = elim (inRange r b) [ true ↦ badFrom s rs from (k + 1) | false ↦ some from ]
+badFrom (b ∷ s) rs from k =
+    elim (lacksPast rs b) [ none ↦ some (beganAt rs from k) | some t ↦ badFrom s t (beganAt rs from k) (k + 1) ]
 
 abbrev pub badAt : List ℕ → Option ℕ
 badAt s = badFrom s [] 0 0
@@ -52,10 +62,14 @@ endsInFeed [] = false
 endsInFeed (b ∷ []) = eqb b 10
 endsInFeed (b ∷ c ∷ s) = endsInFeed (c ∷ s)
 
+-- the refusal with its number and place
+abbrev pub unsound : ℕ → ℕ → Whole
+unsound n k = Unsound (refusal n (at k))
+
 abbrev pub ending : List ℕ → Option ℕ → Whole
-ending s (some k) = Unsound (refusal 3 (at k))
-ending s none = pick (endsInFeed s) Sound (Unsound (refusal 4 (at (length s))))
+ending s (some k) = unsound 3 k
+ending s none = pick (endsInFeed s) Sound (unsound 4 (length s))
 
 -- 2: "text too long", at 65,536; 3: "not UTF-8, or CR without LF", at the first bad sequence; 4: "empty, or the last byte is no LF", at the length
 unfoldable pub wholeOf : List ℕ → Whole
-wholeOf s = pick (ltb 65536 (length s)) (Unsound (refusal 2 (at 65536))) (ending s (badAt s))
+wholeOf s = pick (ltb 65536 (length s)) (unsound 2 65536) (ending s (badAt s))
