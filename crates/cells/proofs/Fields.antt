@@ -70,7 +70,7 @@ mux-gates s n x k (a ∷ xs) (b ∷ ys) ls ln lx p q = (
       (
         two xorOp (k + 1 + 1 + 1) x (k + 2) (omega arith) (omega arith) (omega arith) (omega arith),
         subst (λ (z : ℕ). Gates z (muxFrom s n x (k + 4) xs ys .records)) (omega arith)
-        (mux-gates s n x (k + 4) xs ys (omega arith) (omega arith) (omega arith) (below-more k (k + 4) (omega arith) xs (p .1)) (below-more k (k + 4) (omega arith) ys (q .1))),
+            (mux-gates s n x (k + 4) xs ys (omega arith) (omega arith) (omega arith) (below-more k (k + 4) (omega arith) xs (p .1)) (below-more k (k + 4) (omega arith) ys (q .1))),
       ),
     ),
   ),
@@ -93,9 +93,13 @@ unfolding adcMade
 adc-gates k [] ys c p q l = tt
 adc-gates k (a ∷ xs) [] c p q l = tt
 adc-gates k (a ∷ xs) (b ∷ ys) c p q l =
-    gates-append k (rec xorOp a b ∷ rec xorOp k c ∷ carryRecords (k + 2) a b c) (adcMade (k + 6) xs ys (k + 5) .records) (k + 6) refl
-    (two xorOp k a b (omega arith) (omega arith) (p .0) (q .0), (two xorOp (k + 1) k c (omega arith) (omega arith) (omega arith) (omega arith),
-    subst (λ (z : ℕ). Gates z (carryRecords (k + 2) a b c)) (omega arith) (carry-gates (k + 2) a b c (omega (arith, p .0)) (omega (arith, q .0)) (omega arith))))
+    gates-append k (rec xorOp a b ∷ rec xorOp k c ∷ carryRecords (k + 2) a b c) (adcMade (k + 6) xs ys (k + 5) .records) (k + 6) refl (
+      two xorOp k a b (omega arith) (omega arith) (p .0) (q .0),
+      (
+        two xorOp (k + 1) k c (omega arith) (omega arith) (omega arith) (omega arith),
+        subst (λ (z : ℕ). Gates z (carryRecords (k + 2) a b c)) (omega arith) (carry-gates (k + 2) a b c (omega (arith, p .0)) (omega (arith, q .0)) (omega arith)),
+      ),
+    )
     (adc-gates (k + 6) xs ys (k + 5) (below-more k (k + 6) (omega arith) xs (p .1)) (below-more k (k + 6) (omega arith) ys (q .1)) (omega arith))
 
 eq-from-gates : (sum k : ℕ) (xs ys : List ℕ) → sum < k → Below k xs → Below k ys → Gates k (eqFrom sum k xs ys .records)
@@ -107,7 +111,7 @@ eq-from-gates sum k (a ∷ xs) (b ∷ ys) l p q = (
   (
     two orOp (k + 1) sum k (omega arith) (omega arith) (omega arith) (omega arith),
     subst (λ (z : ℕ). Gates z (eqFrom (k + 1) (k + 2) xs ys .records)) (omega arith)
-    (eq-from-gates (k + 1) (k + 2) xs ys (omega arith) (below-more k (k + 2) (omega arith) xs (p .1)) (below-more k (k + 2) (omega arith) ys (q .1))),
+        (eq-from-gates (k + 1) (k + 2) xs ys (omega arith) (below-more k (k + 2) (omega arith) xs (p .1)) (below-more k (k + 2) (omega arith) ys (q .1))),
   ),
 )
 
@@ -115,9 +119,10 @@ eq-gates : (k : ℕ) (xs ys : List ℕ) → Below k xs → Below k ys → Gates 
 unfolding eqMade
 eq-gates k [] ys p q = tt
 eq-gates k (a ∷ xs) [] p q = tt
-eq-gates k (a ∷ xs) (b ∷ ys) p q =
-    (two xorOp k a b (omega arith) (omega arith) (p .0) (q .0),
-    eq-from-gates k (k + 1) xs ys (omega arith) (below-more k (k + 1) (omega arith) xs (p .1)) (below-more k (k + 1) (omega arith) ys (q .1)))
+eq-gates k (a ∷ xs) (b ∷ ys) p q = (
+  two xorOp k a b (omega arith) (omega arith) (p .0) (q .0),
+  eq-from-gates k (k + 1) xs ys (omega arith) (below-more k (k + 1) (omega arith) xs (p .1)) (below-more k (k + 1) (omega arith) ys (q .1)),
+)
 
 below-gates : (k a b c : ℕ) → a < k → b < k → c < k → Gates k (belowRecords k a b c)
 below-gates k a b c la lb lc = (inverts k a la, carry-gates (k + 1) k b c (omega arith) (omega arith) (omega arith))
@@ -156,7 +161,7 @@ mux-all k s xs ys l p q = (
   (
     two xorOp (k + 1) s s (omega arith) (omega arith) (omega arith) (omega arith),
     subst (λ (z : ℕ). Gates z (muxFrom s k (k + 1) (k + 2) xs ys .records)) (omega arith)
-    (mux-gates s k (k + 1) (k + 2) xs ys (omega arith) (omega arith) (omega arith) (below-more k (k + 2) (omega arith) xs p) (below-more k (k + 2) (omega arith) ys q)),
+        (mux-gates s k (k + 1) (k + 2) xs ys (omega arith) (omega arith) (omega arith) (below-more k (k + 2) (omega arith) xs p) (below-more k (k + 2) (omega arith) ys q)),
   ),
 )
 

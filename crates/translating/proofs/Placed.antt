@@ -100,7 +100,7 @@ module _ (N : Netlist) (v : valid N ≡ true) (ins : List ℕ) (bits : Trits ins
     abbrev c : Cell
     c = cellAt N r
 
-    asks : RunsAsk (Linked S slots values) (c .a) × RunsAsk (Linked S slots values) (c .b) × RunsAsk (Linked S slots values) (c .c)
+    pub asks : RunsAsk (Linked S slots values) (c .a) × RunsAsk (Linked S slots values) (c .b) × RunsAsk (Linked S slots values) (c .c)
     asks = cell-asks N v (Linked S slots values) r below (λ j w m. h .linked j (ready-reads (readsOf N) P r d j m) (wide-no-output N v j w))
 
     pub cell-right : Right ins S (cellMade N r k slots) (cellValue values c)
@@ -140,7 +140,7 @@ module _ (N : Netlist) (v : valid N ≡ true) (ins : List ℕ) (bits : Trits ins
             }
 
   -- a cell that is no input holds its value
-  rule-is : (values : Setting) (r : ℕ) → apart N r ≡ false → ruleOf N ins values r ≡ cellValue values (cellAt N r)
+  pub rule-is : (values : Setting) (r : ℕ) → apart N r ≡ false → ruleOf N ins values r ≡ cellValue values (cellAt N r)
   rule-is values r h = rw (or-false (eqb (cellAt N r .kind) inputKind) (eqb (cellAt N r .kind) outputKind) h .0)
 
   -- THE CELLS IN ORDER: the slots of the records hold the values worked out
