@@ -1,10 +1,10 @@
 // What tokens are made of: spans, numerals, parts, strings. Each function reads the text once, from a place on, with the lent table.
 use crate::classes::class_at;
 ghost use mathlib.Core.Path.{_≡_};
-ghost use mathlib.Core.Bool.{Bool, true, false, _&&_};
-ghost use Prim.Native.Nat.{ℕ, _+_, _<_, _≤_};
+ghost use mathlib.Core.Bool.{true, false, _&&_};
+ghost use Prim.Native.Nat.{_+_, _<_, _≤_};
 ghost use lib.ListN.{length, drop, getD};
-ghost use Rattle.lexis.specs.Bytes.{table, within, among, isDigit, isHex, isRaw};
+ghost use Rattle.lexis.specs.Bytes.{table, within, among, isHex, isRaw};
 ghost use Rattle.lexis.specs.Pieces.{spanEnd, commentEnd, insideMove, insideEnd, grownPast, limited, numeralAt, suffixAt, takenAt, quotedAt};
 
 // A numeral: its value, or that it is past its limit, and the place past its digits.

@@ -19,13 +19,13 @@ use crate::pieces::suffix_at;
 use ground::Place;
 use ground::Refusal;
 ghost use mathlib.Core.Path.{_≡_};
-ghost use mathlib.Core.Bool.{Bool, true, false, _||_};
-ghost use Prim.Native.Nat.{ℕ, _+_, _<_, _≤_};
-ghost use lib.ListN.{length, drop, getD};
+ghost use mathlib.Core.Bool.{true, false, _||_};
+ghost use Prim.Native.Nat.{_+_, _<_, _≤_};
+ghost use lib.ListN.{length};
 ghost use Rattle.ground.specs.Choice.{pick};
 ghost use Rattle.lexis.specs.Bytes.{table};
 ghost use Rattle.lexis.specs.Pieces.{quotedAt};
-ghost use Rattle.lexis.specs.Tokens.{written, took, plain, refused, judged, single, signedOf, metaOf, numberFrom, numberOf, constantFrom, constantOf, cellFrom, opensPlaceholder, cellOf, ioFrom, namedFrom, floatingFrom, ioOf, stringStep, wordOf, longOf, follows, standingAt, tokenAt, insideAt};
+ghost use Rattle.lexis.specs.Tokens.{written, took, plain, refused, single, signedOf, metaOf, numberOf, constantFrom, constantOf, cellFrom, opensPlaceholder, cellOf, ioFrom, namedFrom, floatingFrom, ioOf, stringStep, wordOf, longOf, follows, standingAt, tokenAt, insideAt};
 
 fn refused(number: u8, k: usize) -> Step
     ensures { λ r. ⌜ r ≡ refused number k ⌝ }
