@@ -3,10 +3,10 @@
 use Prim.Native.Nat.{ℕ, zero, suc, _+_, _-_, _*_}
 use mathlib.Core.Bool.{Bool, true, false, not, _&&_}
 use mathlib.Core.List.{List, [], _∷_}
-use lib.Dec.{leb, ltb, eqb}
+use lib.Dec.{ltb, eqb}
 use lib.ListN.{drop, getD, length}
 use Rattle.ground.specs.Choice.{pick}
-use Rattle.lexis.specs.Bytes.{classOf, isWhite, isFeed, isDigit, isHex, isRaw, hexOf, within}
+use Rattle.lexis.specs.Bytes.{classOf, isFeed, isDigit, isHex, isRaw, hexOf, within}
 use Rattle.lexis.specs.declared.pieces.Numeral.{Numeral}
 use Rattle.lexis.specs.declared.pieces.Suffix.{Suffix}
 use Rattle.lexis.specs.declared.pieces.Quoted.{Quoted}

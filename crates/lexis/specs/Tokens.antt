@@ -2,18 +2,16 @@
 use Prim.Native.Nat.{ℕ, zero, suc, _+_, _-_}
 use mathlib.Core.Bool.{Bool, true, false, not, _&&_, _||_}
 use mathlib.Core.List.{List, [], _∷_}
-use lib.Dec.{leb, ltb, eqb}
-use lib.ListN.{drop, getD, length}
+use lib.Dec.{ltb, eqb}
+use lib.ListN.{drop, getD}
 use Rattle.ground.specs.Choice.{pick}
 use Rattle.lexis.specs.Bytes.{classOf, isWhite, isFeed, isConstant, isLetter, isSpecial, within}
 use Rattle.ground.specs.Refusals.{at, refusal}
 use Rattle.lexis.specs.Pieces.{spanEnd, commentEnd, insideEnd, numeralAt, partLimit, suffixAt, quotedAt}
-use Rattle.ground.specs.declared.Place.{Place}
 use Rattle.lexis.specs.declared.pieces.Numeral.{Numeral}
 use Rattle.lexis.specs.declared.pieces.Suffix.{Suffix}
 use Rattle.lexis.specs.declared.pieces.Quoted.{Quoted}
 use Rattle.lexis.specs.declared.pieces.Quoted.the-variants.{Closed, Malformed}
-use Rattle.lexis.specs.declared.Reader.{Reader}
 use Rattle.lexis.specs.declared.Token.{Token}
 use Rattle.lexis.specs.declared.Step.{Step}
 use Rattle.lexis.specs.declared.Step.the-variants.{Took, Refused}

@@ -2,9 +2,9 @@
 // string means are those that the definitions of specs/ give. The form of declarations stands above it, the ground below.
 pub mod classes;
 pub mod decode;
-pub mod pieces;
+mod pieces;
 pub mod scan;
-pub mod tokens;
+mod tokens;
 
 use ground::Place;
 use ground::Refusal;

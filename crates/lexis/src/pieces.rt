@@ -1,21 +1,21 @@
 // What tokens are made of: spans, numerals, parts, strings. Each function reads the text once, from a place on, with the lent table.
 use crate::classes::class_at;
 ghost use mathlib.Core.Path.{_≡_};
-ghost use mathlib.Core.Bool.{Bool, true, false, _&&_};
-ghost use Prim.Native.Nat.{ℕ, _+_, _<_, _≤_};
+ghost use mathlib.Core.Bool.{true, false, _&&_};
+ghost use Prim.Native.Nat.{_+_, _<_, _≤_};
 ghost use lib.ListN.{length, drop, getD};
-ghost use Rattle.lexis.specs.Bytes.{table, within, among, isDigit, isHex, isRaw};
+ghost use Rattle.lexis.specs.Bytes.{table, within, among, isHex, isRaw};
 ghost use Rattle.lexis.specs.Pieces.{spanEnd, commentEnd, insideMove, insideEnd, grownPast, limited, numeralAt, suffixAt, takenAt, quotedAt};
 
 // A numeral: its value, or that it is past its limit, and the place past its digits.
-pub struct Numeral {
+pub(crate) struct Numeral {
     pub value: u32,
     pub large: bool,
     pub end: usize,
 }
 
 // A part behind a mark: whether it is written, whether its digits are missing, and its numeral.
-pub struct Suffix {
+pub(crate) struct Suffix {
     pub given: bool,
     pub broken: bool,
     pub large: bool,
@@ -24,13 +24,13 @@ pub struct Suffix {
 }
 
 // A string: how many bytes it means and the place past its closing quote, or that it is malformed.
-pub enum Quoted {
+pub(crate) enum Quoted {
     Closed { size: usize, end: usize },
     Malformed,
 }
 
 // The byte at a place, and 0 past the end.
-pub fn byte_at(text: &[u8], at: usize) -> u8
+pub(crate) fn byte_at(text: &[u8], at: usize) -> u8
     ensures { λ r. ⌜ r ≡ getD (now (text .entry)) at 0 ⌝ }
 {
     if at < text.len() {
@@ -39,7 +39,7 @@ pub fn byte_at(text: &[u8], at: usize) -> u8
     0
 }
 
-pub fn between(low: u8, high: u8, c: u8) -> bool
+pub(crate) fn between(low: u8, high: u8, c: u8) -> bool
     ensures { λ r. ⌜ r ≡ within low high c ⌝ }
 {
     if c < low {
@@ -49,7 +49,7 @@ pub fn between(low: u8, high: u8, c: u8) -> bool
 }
 
 // A byte whose class is one of a range.
-pub fn in_classes(t: &[u8; 256], low: u8, high: u8, b: u8) -> bool
+pub(crate) fn in_classes(t: &[u8; 256], low: u8, high: u8, b: u8) -> bool
     requires { ⌜ now t ≡ table ⌝ }
     ensures { λ r. ⌜ r ≡ among low high b ⌝ }
 {
@@ -57,7 +57,7 @@ pub fn in_classes(t: &[u8; 256], low: u8, high: u8, b: u8) -> bool
 }
 
 // The place past the bytes of a range of classes.
-pub fn span(t: &[u8; 256], text: &[u8], at: usize, low: u8, high: u8) -> usize
+pub(crate) fn span(t: &[u8; 256], text: &[u8], at: usize, low: u8, high: u8) -> usize
     requires { ⌜ now t ≡ table ⌝ }
     ensures { λ r. ⌜ (r ≡ spanEnd (among low high) (drop at (now (text .entry))) at) × (at ≤ r) ⌝ }
 {
@@ -74,7 +74,7 @@ pub fn span(t: &[u8; 256], text: &[u8], at: usize, low: u8, high: u8) -> usize
 }
 
 // The place past the line feed that ends a comment.
-pub fn comment_end(t: &[u8; 256], text: &[u8], at: usize) -> usize
+pub(crate) fn comment_end(t: &[u8; 256], text: &[u8], at: usize) -> usize
     requires { ⌜ (now t ≡ table) × (at ≤ length (now text)) ⌝ }
     ensures { λ r. ⌜ r ≡ commentEnd (drop at (now (text .entry))) at ⌝ }
 {
@@ -109,7 +109,7 @@ fn inside_move(noted: bool, c: u8) -> u8
 }
 
 // The place of the next token between brackets.
-pub fn inside_end(t: &[u8; 256], text: &[u8], at: usize) -> usize
+pub(crate) fn inside_end(t: &[u8; 256], text: &[u8], at: usize) -> usize
     requires { ⌜ now t ≡ table ⌝ }
     ensures { λ r. ⌜ r ≡ insideEnd (drop at (now (text .entry))) false at ⌝ }
 {
@@ -158,7 +158,7 @@ fn ended(limit: u64, n: u64, end: usize) -> Numeral
 }
 
 // The numeral from a place on.
-pub fn numeral_at(t: &[u8; 256], text: &[u8], at: usize, limit: u64) -> Numeral
+pub(crate) fn numeral_at(t: &[u8; 256], text: &[u8], at: usize, limit: u64) -> Numeral
     requires { ⌜ (now t ≡ table) × (limit ≤ 4294967295) ⌝ }
     ensures { λ r. ⌜ r ≡ numeralAt limit (now (text .entry)) at ⌝ }
 {
@@ -177,7 +177,7 @@ pub fn numeral_at(t: &[u8; 256], text: &[u8], at: usize, limit: u64) -> Numeral
 }
 
 // The part that begins with the mark at a place.
-pub fn suffix_at(t: &[u8; 256], text: &[u8], mark: u8, at: usize) -> Suffix
+pub(crate) fn suffix_at(t: &[u8; 256], text: &[u8], mark: u8, at: usize) -> Suffix
     requires { ⌜ (now t ≡ table) × (0 < mark) ⌝ }
     ensures { λ r. ⌜ r ≡ suffixAt (now (text .entry)) mark at ⌝ }
 {
@@ -203,7 +203,7 @@ pub fn suffix_at(t: &[u8; 256], text: &[u8], mark: u8, at: usize) -> Suffix
     }
 }
 
-pub fn is_hex(t: &[u8; 256], b: u8) -> bool
+pub(crate) fn is_hex(t: &[u8; 256], b: u8) -> bool
     requires { ⌜ now t ≡ table ⌝ }
     ensures { λ r. ⌜ r ≡ isHex b ⌝ }
 {
@@ -215,7 +215,7 @@ pub fn is_hex(t: &[u8; 256], b: u8) -> bool
 }
 
 // A byte that stands for itself in a string.
-pub fn is_raw(t: &[u8; 256], b: u8) -> bool
+pub(crate) fn is_raw(t: &[u8; 256], b: u8) -> bool
     requires { ⌜ now t ≡ table ⌝ }
     ensures { λ r. ⌜ r ≡ isRaw b ⌝ }
 {
@@ -241,7 +241,7 @@ fn escapes(t: &[u8; 256], text: &[u8], at: usize) -> bool
 }
 
 // How many bytes of the text the next byte of a string takes: 3 an escape, 1 a raw byte, 0 where it is malformed.
-pub fn taken(t: &[u8; 256], text: &[u8], at: usize) -> usize
+pub(crate) fn taken(t: &[u8; 256], text: &[u8], at: usize) -> usize
     requires { ⌜ (now t ≡ table) × (at < length (now text)) ⌝ }
     ensures { λ r. ⌜ (r ≡ takenAt (now (text .entry)) at) × (r ≤ 3) ⌝ }
 {
@@ -259,7 +259,7 @@ pub fn taken(t: &[u8; 256], text: &[u8], at: usize) -> usize
 }
 
 // The string whose first byte stands at a place, by its size.
-pub fn quoted_at(t: &[u8; 256], text: &[u8], at: usize) -> Quoted
+pub(crate) fn quoted_at(t: &[u8; 256], text: &[u8], at: usize) -> Quoted
     requires { ⌜ now t ≡ table ⌝ }
     ensures { λ r. ⌜ r ≡ quotedAt (now (text .entry)) at ⌝ }
 {

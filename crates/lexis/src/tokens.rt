@@ -19,13 +19,13 @@ use crate::pieces::suffix_at;
 use ground::Place;
 use ground::Refusal;
 ghost use mathlib.Core.Path.{_≡_};
-ghost use mathlib.Core.Bool.{Bool, true, false, _||_};
-ghost use Prim.Native.Nat.{ℕ, _+_, _<_, _≤_};
-ghost use lib.ListN.{length, drop, getD};
+ghost use mathlib.Core.Bool.{true, false, _||_};
+ghost use Prim.Native.Nat.{_+_, _<_, _≤_};
+ghost use lib.ListN.{length};
 ghost use Rattle.ground.specs.Choice.{pick};
 ghost use Rattle.lexis.specs.Bytes.{table};
 ghost use Rattle.lexis.specs.Pieces.{quotedAt};
-ghost use Rattle.lexis.specs.Tokens.{written, took, plain, refused, judged, single, signedOf, metaOf, numberFrom, numberOf, constantFrom, constantOf, cellFrom, opensPlaceholder, cellOf, ioFrom, namedFrom, floatingFrom, ioOf, stringStep, wordOf, longOf, follows, standingAt, tokenAt, insideAt};
+ghost use Rattle.lexis.specs.Tokens.{written, took, plain, refused, single, signedOf, metaOf, numberOf, constantFrom, constantOf, cellFrom, opensPlaceholder, cellOf, ioFrom, namedFrom, floatingFrom, ioOf, stringStep, wordOf, longOf, follows, standingAt, tokenAt, insideAt};
 
 fn refused(number: u8, k: usize) -> Step
     ensures { λ r. ⌜ r ≡ refused number k ⌝ }
@@ -140,29 +140,29 @@ fn word(t: &[u8; 256], text: &[u8], k: usize) -> Step
     took_plain(3, k, 0, k, e - k, e)
 }
 
-fn string(t: &[u8; 256], text: &[u8], k: usize) -> Step
-    requires { ⌜ (now t ≡ table) × (k < length (now text)) ⌝ }
-    ensures { λ r. ⌜ r ≡ stringStep k (quotedAt (now (text .entry)) (k + 1)) ⌝ }
+fn string(t: &[u8; 256], text: &[u8], quote: usize) -> Step
+    requires { ⌜ (now t ≡ table) × (quote < length (now text)) ⌝ }
+    ensures { λ r. ⌜ r ≡ stringStep quote (quotedAt (now (text .entry)) (quote + 1)) ⌝ }
 {
-    let from = k + 1;
+    let from = quote + 1;
     match quoted_at(t, text, from) {
-        Quoted::Closed { size, end } => took_plain(9, k, 0, from, size, end),
-        Quoted::Malformed => refused(5, k),
+        Quoted::Closed { size, end } => took_plain(9, quote, 0, from, size, end),
+        Quoted::Malformed => refused(5, quote),
     }
 }
 
 // The constant from k to e, with the count behind it.
-fn constant_from(k: usize, e: usize, c: Suffix) -> Step
+fn constant_from(k: usize, e: usize, times: Suffix) -> Step
     requires { ⌜ k ≤ e ⌝ }
-    ensures { λ r. ⌜ r ≡ constantFrom k e c ⌝ }
+    ensures { λ r. ⌜ r ≡ constantFrom k e times ⌝ }
 {
-    if c.broken {
+    if times.broken {
         return refused(5, k);
     }
-    if c.large {
+    if times.large {
         return refused(6, k);
     }
-    let parts = written_parts(false, false, c.given);
+    let parts = written_parts(false, false, times.given);
     Step::Took(
         Token {
             sort: 4,
@@ -173,10 +173,10 @@ fn constant_from(k: usize, e: usize, c: Suffix) -> Step
             parts,
             offset: 0,
             width: 0,
-            count: c.value,
+            count: times.value,
         },
         Reader {
-            next: Place { at: c.end },
+            next: Place { at: times.end },
         },
     )
 }

@@ -2,13 +2,11 @@
 use mathlib.Core.Bool.{true, false}
 use Rattle.lexis.proofs.Laws.{comment-at, comment-end}
 use mathlib.Core.Path.{_≡_, refl}
-use Prim.Native.Nat.{_≤_, _-_, _+_}
+use Prim.Native.Nat.{_≤_, _-_}
 use lib.ListN.{length, drop}
 use native.Mathlib.Omega.{arith}
-use Rattle.lexis.specs.Bytes.{isFeed}
-use Rattle.lexis.specs.Pieces.{spanEnd, commentEnd}
-use Rattle.lexis.proofs.Laws.{span-at, span-end}
-use mathlib.Core.Bool.{true, false, not}
+use Rattle.lexis.specs.Pieces.{commentEnd}
+use mathlib.Core.Bool.{true, false}
 use borrow.Author.Tests.{eq-eqb, ne-eqb}
 use borrow.Author.Needs.{needs}
 use Rattle.lexis.proofs.pieces.comment_end.Statement.{statement}

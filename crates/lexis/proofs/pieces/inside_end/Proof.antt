@@ -1,10 +1,9 @@
 -- The invariant: what is left gives the place that the whole gives; a comment that runs is part of it.
-use mathlib.Core.Path.{_≡_, refl, sym, _∙_}
+use mathlib.Core.Path.{_≡_, refl, sym}
 use Prim.Native.Nat.{_-_}
 use mathlib.Core.Bool.{false}
 use lib.ListN.{length, drop}
 use borrow.Author.Tests.{eq-eqb, ne-eqb}
-use Rattle.ground.proofs.Tests.{tests}
 use Rattle.lexis.specs.Pieces.{insideEnd}
 use Rattle.lexis.proofs.Laws.{inside-at, inside-end}
 use borrow.Author.Needs.{needs}

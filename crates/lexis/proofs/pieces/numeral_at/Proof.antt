@@ -2,7 +2,6 @@
 use mathlib.Core.Path.{_≡_, refl, sym, ap, _∙_}
 use Prim.Native.Nat.{_-_, _≤_}
 use native.Mathlib.Omega.{arith}
-use mathlib.Core.Bool.{true, false}
 use lib.ListN.{length, drop, getD}
 use Rattle.lexis.specs.Pieces.{digitsFrom, limited, numeralAt}
 use Rattle.lexis.proofs.Laws.{numeral-on, numeral-stop, numeral-end}

@@ -1,10 +1,10 @@
 -- The invariant: what is left of the string, behind the bytes counted so far, gives what the whole gives.
 use Rattle.lexis.specs.Pieces.{quotedAt}
 use Rattle.lexis.proofs.Laws.{quotedFrom, quoted-start, quoted-end, quoted-close, quoted-stop, quoted-on}
-use mathlib.Core.Path.{_≡_, refl, sym, ap, _∙_}
+use mathlib.Core.Path.{_≡_}
 use Prim.Native.Nat.{_-_, _≤_}
 use native.Mathlib.Omega.{arith}
-use lib.ListN.{length, drop}
+use lib.ListN.{length}
 use borrow.Author.Tests.{eq-eqb, ne-eqb}
 use borrow.Author.Needs.{needs}
 use Rattle.lexis.proofs.pieces.quoted_at.Statement.{statement}

@@ -1,6 +1,4 @@
-use Rattle.lexis.specs.Tokens.{follows}
 use Rattle.lexis.proofs.Standing.{follows-start, follows-behind}
-use native.Mathlib.Omega.{arith}
 use borrow.Author.Tests.{eq-eqb, ne-eqb}
 -- The class of the byte before, asked in the definition's order.
 use borrow.Author.Needs.{needs}

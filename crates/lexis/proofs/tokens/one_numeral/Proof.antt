@@ -1,5 +1,4 @@
 use borrow.Author.Tests.{eq-eqb, ne-eqb}
-use Rattle.ground.proofs.Tests.{tests}
 -- The tests of the code are those of the definition, in its order.
 use borrow.Author.Needs.{needs}
 use Rattle.lexis.proofs.tokens.one_numeral.Statement.{statement}

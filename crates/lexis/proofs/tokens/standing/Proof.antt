@@ -1,7 +1,4 @@
 use mathlib.Core.Path.{_∙_, sym}
-use lib.ListN.{length}
-use Prim.Native.Nat.{_<_}
-use native.Mathlib.Omega.{arith}
 use Rattle.lexis.proofs.Standing.{standing-end, standing-at}
 use borrow.Author.Tests.{eq-eqb, ne-eqb}
 -- The tests of the code are those of the definition at a byte of the text, in its order.

@@ -1,0 +1,21 @@
+-- Each public function has one outcome: its contract is an equation.
+use mathlib.Core.Path.{_≡_}
+use mathlib.Core.List.{List}
+use Prim.Native.Nat.{ℕ}
+use Rattle.ground.proofs.Outcome.{any-two}
+use Rattle.lexis.specs.Bytes.{classOf, table}
+use Rattle.lexis.specs.Tokens.{tokenAt, insideAt}
+use Rattle.lexis.specs.declared.Step.{Step}
+
+pub classes-one : (o p : List ℕ) → o ≡ table → p ≡ table → o ≡ p
+classes-one = any-two (λ (n : ℕ). table) 0
+
+pub class-one : (b o p : ℕ) → o ≡ classOf b → p ≡ classOf b → o ≡ p
+class-one b = any-two classOf b
+
+-- with a lent table and without
+pub next-one : (text : List ℕ) (k : ℕ) (o p : Step) → o ≡ tokenAt text k → p ≡ tokenAt text k → o ≡ p
+next-one text k = any-two (tokenAt text) k
+
+pub inside-one : (text : List ℕ) (k : ℕ) (o p : Step) → o ≡ insideAt text k → p ≡ insideAt text k → o ≡ p
+inside-one text k = any-two (insideAt text) k
