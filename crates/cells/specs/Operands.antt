@@ -1,6 +1,6 @@
 -- Operands: what they read, and their bits with bit 0 first.
 use Prim.Native.Nat.{ℕ}
-use mathlib.Core.List.{List, [], _∷_, _++_, map, reverse}
+use mathlib.Core.List.{List, [], _∷_, map, reverse}
 use lib.ListN.{getD}
 use Rattle.ground.specs.Lists.{joined}
 use Rattle.netlist.specs.Netlist.{Run, const, piece, Cell, cellRuns}

@@ -1,7 +1,6 @@
 -- The meaning of a netlist: the setting of all cell bits in which every cell holds what its rule makes of the cells that it reads.
 use Prim.Native.Nat.{ℕ, _<_}
 use mathlib.Core.Path.{_≡_}
-use mathlib.Core.Bool.{Bool, true, false}
 use mathlib.Core.List.{List}
 use lib.Dec.{eqb}
 use lib.ListN.{length}

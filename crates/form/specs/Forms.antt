@@ -1,5 +1,5 @@
 -- The form of a declaration, token by token from the left: refusals 5 to 8 with their places.
-use Prim.Native.Nat.{ℕ, _+_}
+use Prim.Native.Nat.{ℕ}
 use Prim.Native.String.{String}
 use mathlib.Core.Bool.{Bool, true, false, _&&_, _||_}
 use mathlib.Core.List.{List}
@@ -8,8 +8,6 @@ use Rattle.ground.specs.Choice.{pick}
 use Rattle.ground.specs.Refusals.{at, refusal}
 use Rattle.kinds.specs.Kinds.{kindAt}
 use Rattle.lexis.specs.Tokens.{tokenAt, insideAt, lineEnd, textEnd, word, constant, number, meta, io, cell, string, placeholder}
-use Rattle.ground.specs.declared.Place.{Place}
-use Rattle.lexis.specs.declared.Reader.{Reader}
 use Rattle.lexis.specs.declared.Token.{Token}
 use Rattle.lexis.specs.declared.Step.{Step}
 use Rattle.lexis.specs.declared.Step.the-variants as step
@@ -19,13 +17,11 @@ use Rattle.form.specs.declared.Str.{Str}
 use Rattle.form.specs.declared.Ref.{Ref}
 use Rattle.form.specs.declared.Operand.{Operand}
 use Rattle.form.specs.declared.Point.{Point}
-use Rattle.form.specs.declared.Label.{Label}
 use Rattle.form.specs.declared.Label.the-variants.{Named, Indexed}
 use Rattle.form.specs.declared.Payload.{Payload}
 use Rattle.form.specs.declared.Payload.the-variants as payload
 use Rattle.form.specs.declared.Decl.{Decl}
 use Rattle.form.specs.declared.Decl.the-variants as decl
-use Rattle.form.specs.declared.Declared.{Declared}
 use Rattle.form.specs.declared.Form.{Form}
 use Rattle.form.specs.declared.Form.the-variants as form
 use Rattle.form.specs.declared.Measured.{Measured}

@@ -1,4 +1,4 @@
--- Document 01, Cells: the table of the twelve keywords. A kind's number is its line in the table, from 1.
+-- Document 01, Cells: the table of the twelve keywords. A kind's number is its keyword's place in the table, from 1.
 use Prim.Native.Nat.{ℕ, _+_, _*_}
 use Prim.Native.String.{String}
 use mathlib.Core.Bool.{Bool, true, false, _&&_}

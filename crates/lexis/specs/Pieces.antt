@@ -17,7 +17,7 @@ unfoldable pub spanEnd : (ℕ → Bool) → List ℕ → ℕ → ℕ
 spanEnd p [] k = k
 spanEnd p (b ∷ s) k = elim (p b) [ true ↦ spanEnd p s (k + 1) | false ↦ k ]
 
--- 001, Comments: "starting with `;` and ending with LINE FEED"
+-- 001, Comments: a comment starts with `;` and ends with LINE FEED
 unfoldable pub commentEnd : List ℕ → ℕ → ℕ
 commentEnd s k = spanEnd (λ b. not (isFeed b)) s k + 1
 

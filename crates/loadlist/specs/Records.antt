@@ -5,7 +5,7 @@ use lib.ListN.{getD, drop}
 use Rattle.ground.specs.Lists.{joined}
 use Rattle.loadlist.specs.declared.Record.{Record}
 
--- "Operations: 0, 1, 2 the constants 0, 1, X; 3 input (bit number); 4 not; 5 and; 6 or; 7 xor; 8 output (slot, output bit number)"
+-- "Operations: 0, 1, 2 the constants 0, 1, X; 3 input (bit number); 4 not; 5 and; 6 or; 7 xor; 8 output (slot, output bit number; its slot is a copy)"
 abbrev pub inputOp : ℕ
 inputOp = 3
 

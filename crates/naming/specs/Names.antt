@@ -1,6 +1,6 @@
 -- Full names. Document 01, Metadata: "The full name of an ident is written parent first, down to the named declaration, joined by `/`,
 -- indexed scopes in decimal." 16: "asked row is no ident".
-use Prim.Native.Nat.{ℕ, zero, suc, _+_, _-_}
+use Prim.Native.Nat.{ℕ, zero, suc, _-_}
 use mathlib.Core.Bool.{Bool, true, false, not, _&&_}
 use mathlib.Core.List.{List, [], _∷_, _++_}
 use lib.Dec.{ltb, eqb}

@@ -1,8 +1,8 @@
 -- A netlist as a value: metadata, I/O and cells, each in text order. Document 01, Room: "Rows keep text order; author's cell and
 -- metadata numbers aren't kept."
-use Prim.Native.Nat.{ℕ, _+_}
-use mathlib.Core.Bool.{Bool, true, false, _||_}
-use mathlib.Core.List.{List, [], _∷_, _++_, map}
+use Prim.Native.Nat.{ℕ}
+use mathlib.Core.Bool.{Bool, _||_}
+use mathlib.Core.List.{List, [], _++_}
 use lib.Dec.{eqb}
 use lib.ListN.{length}
 use Rattle.ground.specs.Lists.{total, joined}

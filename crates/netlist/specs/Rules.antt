@@ -8,7 +8,7 @@ use Rattle.ground.specs.Choice.{pick}
 use Rattle.ground.specs.Lists.{every, allOf, total}
 use Rattle.ground.specs.Text.{same}
 use Rattle.kinds.specs.Kinds.{kindAt, isKind, wide, inputKind, outputKind}
-use Rattle.netlist.specs.Netlist.{Run, const, piece, Meta, Io, Cell, Netlist, setMeta, sourceMeta, scopeMeta, indexedMeta, identMeta, bitsMeta, integerMeta, stringMeta, isScope, operandWidth, stringsOf, membersOf, runsOf}
+use Rattle.netlist.specs.Netlist.{Run, const, piece, Meta, Io, Cell, Netlist, setMeta, sourceMeta, indexedMeta, identMeta, bitsMeta, integerMeta, stringMeta, isScope, operandWidth, stringsOf, membersOf, runsOf}
 use Rattle.netlist.specs.Runs.{longest}
 
 -- RULE 9: "index or name declared twice"

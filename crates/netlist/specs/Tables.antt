@@ -1,10 +1,9 @@
 -- The tables that hold a netlist. Document 01, Room: "Unused places hold zero. Rows keep text order .. Strings, set members and runs
 -- lie in the order of the canonical text, without gaps or sharing." docs/LAYOUT.md has each field with its offset.
 use Prim.Native.Nat.{ℕ, _+_}
-use mathlib.Core.Bool.{Bool, true, false}
 use mathlib.Core.List.{List, [], _∷_, _++_}
-use lib.ListN.{length, getD, take, drop}
-use Rattle.ground.specs.Regions.{pad, part, zeros}
+use lib.ListN.{length, getD, take}
+use Rattle.ground.specs.Regions.{pad, part}
 use Rattle.netlist.specs.Netlist.{Run, const, piece, Meta, Io, Cell, Netlist, stringsOf, metaStrings, membersOf, attrBitsOf, cellRuns, runsOf, bitsIn, runBitsOf}
 use Rattle.ground.specs.Lists.{joined}
 

@@ -1,6 +1,5 @@
 -- The netlist that tables show, good or not: each row is read as it stands, each pool from the row's start on.
 use Prim.Native.Nat.{ℕ, zero, suc, _+_, _-_}
-use mathlib.Core.Bool.{Bool, true, false}
 use mathlib.Core.List.{List, [], _∷_}
 use lib.Dec.{eqb}
 use lib.ListN.{drop, getD}

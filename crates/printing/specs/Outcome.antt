@@ -1,6 +1,5 @@
 -- All that a caller sees after a printing: the answer and every byte of the room. 1, 15, then 24.
 use Prim.Native.Nat.{ℕ}
-use mathlib.Core.Bool.{Bool, true, false}
 use mathlib.Core.List.{List}
 use lib.Dec.{ltb}
 use lib.ListN.{length}

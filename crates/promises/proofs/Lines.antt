@@ -21,7 +21,7 @@ use Rattle.netlist.specs.Runs.{falling, knownBits, cut, longest}
 use Rattle.netlist.specs.Rules.{taken, distinct, namesAs, roomy, metasSound, valid}
 use Rattle.netlist.specs.Good.{laid, good, short, checkOf, ioFrom, lookupOf}
 use Rattle.reading.specs.Values.{rowFrom, copies, operandRuns, operandPieces}
-use Rattle.reading.specs.Rules.{added, firstMisnamed, lastMeta, ruledOut}
+use Rattle.reading.specs.Rules.{saidBy, added, firstMisnamed, ruledOut}
 use Rattle.reading.specs.Reading.{declarationsFrom, firstUnresolved, netlistOf, readSound, reading}
 use Rattle.printing.specs.Decimal.{digits, places, signed}
 use Rattle.printing.specs.Words.{text, number, hash, escaped, quoted, trits, reference, offset, width, runs, references}
@@ -40,13 +40,14 @@ use Rattle.printing.specs.Outcome as print
 use Rattle.naming.specs.Names as name
 use Rattle.promises.specs.Lines.{markedLines, otherLines}
 use Rattle.promises.specs.Refusals.{refusals}
+use Rattle.promises.specs.More.{moreLines}
 
 -- THE LINES MARKED P hold of the definitions
 pub lines-hold : map (λ (l : Line). answerTo (l .ask)) markedLines ≡ map (λ (l : Line). l .answer) markedLines
-unfolding every allOf total joined upFrom updated zeros blank fits pad over part bytes same notOf andOf orOf xorOf holds countOf carryOf notBits pairs adcBits clash agree someClash allAgree eqBit ultFrom ultBit sltFrom sltBit muxBits mem allPlaced ready lowestFrom lowest place orderFrom order some leftOut kindAt classFrom classOf classesFrom table tailOf badFrom endsInFeed wholeOf spanEnd commentEnd insideEnd digitsFrom numeralAt suffixAt stringFrom quotedAt metaOf numberOf constantOf cellOf ioOf wordOf longOf follows tokenFrom tokenAt insideAt numbered concatFrom operandAt partsFrom partsAt setFrom membersFrom setForm sourceForm optionAt scopeForm identForm attrForm metaForm ioForm operandIf metaIf wiringForm namedForm cellForm bodyForm openForm formAt falling knownBits cut longest taken distinct namesAs roomy metasSound valid laid good short checkOf ioFrom lookupOf rowFrom copies operandRuns operandPieces added firstMisnamed lastMeta ruledOut declarationsFrom firstUnresolved netlistOf readSound reading digits places signed text number hash escaped quoted trits reference offset width runs references option point metaLines ioLines numbersFrom nameText operandText cellLine cellLines lines canonical recordsIn goodRecord badRecordFrom badRecord slotsFrom outputsIn runOf cellReads bitsFrom kindValue cellValue notMade gateMade muxFrom muxMade adcMade eqFrom eqMade ultMade sltMade kindMade outputsFrom placingOf ringed valuesFrom assigned evaluation inputRecords inputSlots cellRecords cellSlots outputRecords translation recordSum answerTo print.written name.written name.nameFrom
+unfolding every allOf total joined upFrom updated zeros blank fits pad over part bytes same notOf andOf orOf xorOf holds countOf carryOf notBits pairs adcBits clash agree someClash allAgree eqBit ultFrom ultBit sltFrom sltBit muxBits mem allPlaced ready lowestFrom lowest place orderFrom order some leftOut kindAt classFrom classOf classesFrom table tailOf badFrom endsInFeed wholeOf spanEnd commentEnd insideEnd digitsFrom numeralAt suffixAt stringFrom quotedAt metaOf numberOf constantOf cellOf ioOf wordOf longOf follows tokenFrom tokenAt insideAt numbered concatFrom operandAt partsFrom partsAt setFrom membersFrom setForm sourceForm optionAt scopeForm identForm attrForm metaForm ioForm operandIf metaIf wiringForm namedForm cellForm bodyForm openForm formAt falling knownBits cut longest taken distinct namesAs roomy metasSound valid laid good short checkOf ioFrom lookupOf rowFrom copies operandRuns operandPieces saidBy added firstMisnamed ruledOut declarationsFrom firstUnresolved netlistOf readSound reading digits places signed text number hash escaped quoted trits reference offset width runs references option point metaLines ioLines numbersFrom nameText operandText cellLine cellLines lines canonical recordsIn goodRecord badRecordFrom badRecord slotsFrom outputsIn runOf cellReads bitsFrom kindValue cellValue notMade gateMade muxFrom muxMade adcMade eqFrom eqMade ultMade sltMade kindMade outputsFrom placingOf ringed valuesFrom assigned evaluation inputRecords inputSlots cellRecords cellSlots outputRecords translation recordSum answerTo print.written name.written name.nameFrom
 lines-hold = refl
 
--- so do the other lines, and a case for each refusal number
-pub refusals-hold : map (λ (l : Line). answerTo (l .ask)) (otherLines ++ refusals) ≡ map (λ (l : Line). l .answer) (otherLines ++ refusals)
-unfolding every allOf total joined upFrom updated zeros blank fits pad over part bytes same notOf andOf orOf xorOf holds countOf carryOf notBits pairs adcBits clash agree someClash allAgree eqBit ultFrom ultBit sltFrom sltBit muxBits mem allPlaced ready lowestFrom lowest place orderFrom order some leftOut kindAt classFrom classOf classesFrom table tailOf badFrom endsInFeed wholeOf spanEnd commentEnd insideEnd digitsFrom numeralAt suffixAt stringFrom quotedAt metaOf numberOf constantOf cellOf ioOf wordOf longOf follows tokenFrom tokenAt insideAt numbered concatFrom operandAt partsFrom partsAt setFrom membersFrom setForm sourceForm optionAt scopeForm identForm attrForm metaForm ioForm operandIf metaIf wiringForm namedForm cellForm bodyForm openForm formAt falling knownBits cut longest taken distinct namesAs roomy metasSound valid laid good short checkOf ioFrom lookupOf rowFrom copies operandRuns operandPieces added firstMisnamed lastMeta ruledOut declarationsFrom firstUnresolved netlistOf readSound reading digits places signed text number hash escaped quoted trits reference offset width runs references option point metaLines ioLines numbersFrom nameText operandText cellLine cellLines lines canonical recordsIn goodRecord badRecordFrom badRecord slotsFrom outputsIn runOf cellReads bitsFrom kindValue cellValue notMade gateMade muxFrom muxMade adcMade eqFrom eqMade ultMade sltMade kindMade outputsFrom placingOf ringed valuesFrom assigned evaluation inputRecords inputSlots cellRecords cellSlots outputRecords translation recordSum answerTo print.written name.written name.nameFrom
+-- so do the other lines, a case for each refusal number, and more lines
+pub refusals-hold : map (λ (l : Line). answerTo (l .ask)) (otherLines ++ (refusals ++ moreLines)) ≡ map (λ (l : Line). l .answer) (otherLines ++ (refusals ++ moreLines))
+unfolding every allOf total joined upFrom updated zeros blank fits pad over part bytes same notOf andOf orOf xorOf holds countOf carryOf notBits pairs adcBits clash agree someClash allAgree eqBit ultFrom ultBit sltFrom sltBit muxBits mem allPlaced ready lowestFrom lowest place orderFrom order some leftOut kindAt classFrom classOf classesFrom table tailOf badFrom endsInFeed wholeOf spanEnd commentEnd insideEnd digitsFrom numeralAt suffixAt stringFrom quotedAt metaOf numberOf constantOf cellOf ioOf wordOf longOf follows tokenFrom tokenAt insideAt numbered concatFrom operandAt partsFrom partsAt setFrom membersFrom setForm sourceForm optionAt scopeForm identForm attrForm metaForm ioForm operandIf metaIf wiringForm namedForm cellForm bodyForm openForm formAt falling knownBits cut longest taken distinct namesAs roomy metasSound valid laid good short checkOf ioFrom lookupOf rowFrom copies operandRuns operandPieces saidBy added firstMisnamed ruledOut declarationsFrom firstUnresolved netlistOf readSound reading digits places signed text number hash escaped quoted trits reference offset width runs references option point metaLines ioLines numbersFrom nameText operandText cellLine cellLines lines canonical recordsIn goodRecord badRecordFrom badRecord slotsFrom outputsIn runOf cellReads bitsFrom kindValue cellValue notMade gateMade muxFrom muxMade adcMade eqFrom eqMade ultMade sltMade kindMade outputsFrom placingOf ringed valuesFrom assigned evaluation inputRecords inputSlots cellRecords cellSlots outputRecords translation recordSum answerTo print.written name.written name.nameFrom
 refusals-hold = refl

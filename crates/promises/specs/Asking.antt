@@ -1,10 +1,7 @@
 -- What a worked case asks of the definitions, and the answer to it.
-use Prim.Native.Nat.{ℕ, zero, suc}
-use mathlib.Core.Bool.{Bool, true, false}
+use Prim.Native.Nat.{ℕ}
 use mathlib.Core.List.{List, [], _∷_}
-use lib.ListN.{getD}
 use Rattle.ground.specs.Regions.{zeros}
-use Rattle.ground.specs.Text.{bytes}
 use Rattle.ground.specs.declared.Refusal.{Refusal}
 use Rattle.netlist.specs.Netlist.{Netlist}
 use Rattle.netlist.specs.Good.{lookup}

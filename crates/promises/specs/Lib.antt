@@ -1,3 +1,4 @@
 pub mod Asking
 pub mod Lines
 pub mod Refusals
+pub mod More

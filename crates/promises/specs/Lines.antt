@@ -2,10 +2,9 @@
 use Prim.Native.Nat.{ℕ}
 use Prim.Native.String.{String}
 use mathlib.Core.List.{List, [], _∷_, _++_}
-use lib.ListN.{replicate}
 use Rattle.ground.specs.Lists.{joined}
 use Rattle.ground.specs.Text.{bytes}
-use Rattle.promises.specs.Asking.{Line, line, Ask, toRead, toPrint, toShow, toEvaluate, toTranslate, toCount, Answer, accepted, refusedAt, gives, counts}
+use Rattle.promises.specs.Asking.{Line, line, toRead, toPrint, toShow, toEvaluate, toTranslate, toCount, accepted, refusedAt, gives, counts}
 
 -- the netlist of the second and third line, with an operand of its output
 abbrev sized : String → List ℕ

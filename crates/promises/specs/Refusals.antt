@@ -1,10 +1,9 @@
 -- A worked case for each refusal number that a text, a netlist or a list can meet: document 01, Refusal numbers.
 use Prim.Native.Nat.{ℕ}
-use Prim.Native.String.{String}
 use mathlib.Core.List.{List, [], _∷_, _++_}
 use lib.ListN.{replicate}
 use Rattle.ground.specs.Text.{bytes}
-use Rattle.promises.specs.Asking.{Line, line, Ask, toRead, toPrint, toName, toFind, toEvaluate, toTranslate, toRun, Answer, accepted, refusedAt, gives}
+use Rattle.promises.specs.Asking.{Line, line, toRead, toPrint, toName, toFind, toEvaluate, toTranslate, toRun, accepted, refusedAt, gives}
 use Rattle.promises.specs.Lines.{fifteen, loaded}
 
 abbrev names : List ℕ

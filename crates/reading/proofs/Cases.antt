@@ -1,4 +1,4 @@
--- The decisions on reading, computed: each example of docs/DECISIONS.md with its answer, in its order.
+-- The decisions on reading, computed: each example of docs/DECISIONS.md with its answer; texts that are not ASCII stand last.
 use Prim.Native.Nat.{ℕ}
 use Prim.Native.String.{String}
 use mathlib.Core.Path.{_≡_, refl}
@@ -17,7 +17,7 @@ use Rattle.form.specs.Forms.{setForm, sourceForm, optionAt, scopeForm, identFor
 use Rattle.netlist.specs.Runs.{falling, knownBits, cut, longest}
 use Rattle.netlist.specs.Rules.{taken, distinct, namesAs, roomy, metasSound, valid}
 use Rattle.reading.specs.Values.{rowFrom, copies, operandRuns, operandPieces}
-use Rattle.reading.specs.Rules.{added, firstMisnamed, lastMeta, ruledOut}
+use Rattle.reading.specs.Rules.{saidBy, added, firstMisnamed, ruledOut}
 use Rattle.reading.specs.Reading.{declarationsFrom, firstUnresolved, netlistOf, readSound, reading}
 use Rattle.reading.specs.Reading.{Reading, says, refused}
 
@@ -29,14 +29,14 @@ pub record Case : Type 0 where
   pub text : List ℕ
   pub answer : Answer
 
-abbrev case : String → Answer → Case
+abbrev pub case : String → Answer → Case
 case t a = record { text = bytes t; answer = a }
 
 -- a text that is not ASCII
-abbrev raw : List ℕ → Answer → Case
+abbrev pub raw : List ℕ → Answer → Case
 raw t a = record { text = t; answer = a }
 
-abbrev answerOf : Reading → Answer
+abbrev pub answerOf : Reading → Answer
 answerOf (says N) = accepted
 answerOf (refused g) = refusedAt (g .number) (g .place .at)
 
@@ -151,10 +151,10 @@ cases =
     ∷ case "!0 = attr \"\" \"a\"\n" (refusedAt 11 0)
     ∷ case "\n\r" (refusedAt 3 1)
     ∷ case "$ " (refusedAt 4 2)
-    ∷ case ";\x00\x01\x7f\x0b\n" accepted
+    ∷ case ";\0\u{1}\u{7f}\u{b}\n" accepted
     ∷ case " \t\n;x\r\n\r\n" accepted
-    ∷ case "\x0c\n" (refusedAt 5 0)
-    ∷ case "%0:1 = input \"\x7f\"\n" (refusedAt 5 13)
+    ∷ case "\u{c}\n" (refusedAt 5 0)
+    ∷ case "%0:1 = input \"\u{7f}\"\n" (refusedAt 5 13)
     ∷ case "!0 = scope #0\n!1 = {!0 !0}\n!2 = {!0 !1}\n" (refusedAt 10 36)
     ∷ case "%0:1 = buf [0]*1\n" (refusedAt 5 14)
     ∷ case "!1*2 = scope #0\n" (refusedAt 5 2)
@@ -175,5 +175,5 @@ cases =
     ∷ []
 
 decided : map (λ (c : Case). answerOf (reading (c .text))) cases ≡ map (λ (c : Case). c .answer) cases
-unfolding every allOf total joined upFrom updated zeros blank fits pad over part bytes same kindAt classFrom classOf classesFrom table tailOf badFrom endsInFeed wholeOf spanEnd commentEnd insideEnd digitsFrom numeralAt suffixAt stringFrom quotedAt metaOf numberOf constantOf cellOf ioOf wordOf longOf follows tokenFrom tokenAt insideAt numbered concatFrom operandAt partsFrom partsAt setFrom membersFrom setForm sourceForm optionAt scopeForm identForm attrForm metaForm ioForm operandIf metaIf wiringForm namedForm cellForm bodyForm openForm formAt falling knownBits cut longest taken distinct namesAs roomy metasSound valid rowFrom copies operandRuns operandPieces added firstMisnamed lastMeta ruledOut declarationsFrom firstUnresolved netlistOf readSound reading
+unfolding every allOf total joined upFrom updated zeros blank fits pad over part bytes same kindAt classFrom classOf classesFrom table tailOf badFrom endsInFeed wholeOf spanEnd commentEnd insideEnd digitsFrom numeralAt suffixAt stringFrom quotedAt metaOf numberOf constantOf cellOf ioOf wordOf longOf follows tokenFrom tokenAt insideAt numbered concatFrom operandAt partsFrom partsAt setFrom membersFrom setForm sourceForm optionAt scopeForm identForm attrForm metaForm ioForm operandIf metaIf wiringForm namedForm cellForm bodyForm openForm formAt falling knownBits cut longest taken distinct namesAs roomy metasSound valid rowFrom copies operandRuns operandPieces saidBy added firstMisnamed ruledOut declarationsFrom firstUnresolved netlistOf readSound reading
 decided = refl

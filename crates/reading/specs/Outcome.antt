@@ -1,13 +1,13 @@
 -- All that a caller sees after a read: the answer, and every word and byte lent.
 use Prim.Native.Nat.{ℕ}
-use mathlib.Core.Bool.{Bool, true, false, _||_}
+use mathlib.Core.Bool.{_||_}
 use mathlib.Core.List.{List}
 use lib.Dec.{ltb}
 use lib.ListN.{length}
 use Rattle.ground.specs.Choice.{pick}
 use Rattle.ground.specs.Refusals.{at, refusal}
 use Rattle.ground.specs.Regions.{zeros, over}
-use Rattle.netlist.specs.Tables.{Tables, layout, rowsOf, bitsOf, rowsLength, stringsLength, bitsLength}
+use Rattle.netlist.specs.Tables.{layout, rowsOf, bitsOf, rowsLength, stringsLength, bitsLength}
 use Rattle.netlist.specs.Good.{short}
 use Rattle.reading.specs.Reading.{Reading, says, refused, reading}
 use Rattle.reading.specs.declared.Read.{Read}

@@ -1,12 +1,11 @@
 -- What a text says: a netlist, or a refusal. Document 01, Refusal numbers: "Reading: 1 to 4 over all the text; then each declaration,
 -- first form (5 to 8, left to right, the smaller at one place), then 9 to 13 by number; last 14, left to right."
-use Prim.Native.Nat.{ℕ, zero, suc, _+_, _-_}
+use Prim.Native.Nat.{ℕ, zero, suc, _-_}
 use mathlib.Core.Bool.{Bool, true, false, not, _&&_}
 use mathlib.Core.List.{List, [], _∷_, map}
 use mathlib.Core.Option.{Option, none, some}
 use lib.Dec.{leb}
 use lib.ListN.{length}
-use Rattle.ground.specs.Choice.{pick}
 use Rattle.ground.specs.Refusals.{at, refusal}
 use Rattle.ground.specs.declared.Place.{Place}
 use Rattle.ground.specs.declared.Refusal.{Refusal}
@@ -14,12 +13,11 @@ use Rattle.lexis.specs.Whole.{wholeOf}
 use Rattle.lexis.specs.declared.Whole.{Whole}
 use Rattle.lexis.specs.declared.Whole.the-variants as whole
 use Rattle.form.specs.Forms.{formAt}
-use Rattle.form.specs.declared.Form.{Form}
 use Rattle.form.specs.declared.Form.the-variants as form
-use Rattle.netlist.specs.Netlist.{Run, const, piece, Meta, Io, Cell, Netlist}
+use Rattle.netlist.specs.Netlist.{Run, const, piece, Cell, Netlist}
 use Rattle.netlist.specs.Rules.{resolves, widthsOf}
 use Rattle.reading.specs.Values.{PieceAt, rowOf}
-use Rattle.reading.specs.Rules.{Sofar, nothing, added, ruledOut}
+use Rattle.reading.specs.Rules.{Sofar, nothing, saidBy, added, ruledOut}
 
 -- the declarations from the place on
 pub data Declarations : Type 0 where
@@ -34,7 +32,7 @@ declarationsFrom (suc f) text k so = elim (formAt text k) [
   | form.End ↦ all so
   | form.Took d r ↦ elim (ruledOut text so d) [
     | some g ↦ stopped g
-    | none ↦ declarationsFrom f text (r .next .at) (added text so (d .index) (d .decl))
+    | none ↦ declarationsFrom f text (r .next .at) (added so (d .index) (saidBy text so (d .decl)))
   ]
 ]
 

@@ -1,9 +1,9 @@
 -- What is asked of each declaration, after its form: rules 9 to 13 by number. `Sofar` is what the declarations before it say.
-use Prim.Native.Nat.{ℕ, _+_}
+use Prim.Native.Nat.{ℕ}
 use mathlib.Core.Bool.{Bool, true, false, not, _&&_, _||_}
 use mathlib.Core.List.{List, [], _∷_, _++_, map}
 use mathlib.Core.Option.{Option, none, some}
-use lib.Dec.{leb, ltb, eqb}
+use lib.Dec.{leb}
 use Rattle.ground.specs.Choice.{pick}
 use Rattle.ground.specs.Refusals.{at, refusal}
 use Rattle.ground.specs.declared.Place.{Place}
@@ -29,7 +29,12 @@ pub record Sofar : Type 0 where
 abbrev pub nothing : Sofar
 nothing = record { netlist = record { metas = []; ios = []; cells = [] }; metaNumbers = []; cellNumbers = []; pieces = [] }
 
--- WHAT A DECLARATION ADDS
+-- WHAT A DECLARATION SAYS: metadata, an I/O row, or a cell with its operands' exact widths and the pieces as the text has them
+pub data Said : Type 0 where
+  metadata : Meta → Said
+  pad : Io → Said
+  cell : Cell → ℕ → ℕ → ℕ → List PieceAt → Said
+
 abbrev pub cellOf : List ℕ → Sofar → Wiring → Cell
 cellOf text so w = record {
   kind = w .kind;
@@ -41,6 +46,19 @@ cellOf text so w = record {
   c = operandRuns text (w .c);
 }
 
+abbrev pub piecesOf : List ℕ → Wiring → List PieceAt
+piecesOf text w = operandPieces text (w .a) ++ (operandPieces text (w .b) ++ operandPieces text (w .c))
+
+unfoldable pub saidBy : List ℕ → Sofar → Decl → Said
+saidBy text so (decl.Set m) = metadata (meta setMeta [] [] (map (refRow (so .metaNumbers)) (membersAt text (m .at))) [] 0 0 0)
+saidBy text so (decl.Source f r) = metadata (sourceOf (stringIn text f) r)
+saidBy text so (decl.Scope l i s) = metadata (scopeOf text l (refRow (so .metaNumbers) i) (refRow (so .metaNumbers) s))
+saidBy text so (decl.Ident n i) = metadata (meta identMeta (stringIn text n) [] [] [] (refRow (so .metaNumbers) i) 0 0)
+saidBy text so (decl.Attr n p) = metadata (attrOf text (stringIn text n) p)
+saidBy text so (decl.Io n w) = pad (record { name = stringIn text n; width = w })
+saidBy text so (decl.Cell w) = cell (cellOf text so w) (w .a .width) (w .b .width) (w .c .width) (piecesOf text w)
+
+-- what is said with it
 abbrev pub withMeta : Sofar → ℕ → Meta → Sofar
 withMeta so index m = record {
   netlist = record { metas = so .netlist .metas ++ (m ∷ []); ios = so .netlist .ios; cells = so .netlist .cells };
@@ -65,39 +83,20 @@ withCell so index c ps = record {
   pieces = so .pieces ++ ps;
 }
 
-abbrev pub piecesOf : List ℕ → Wiring → List PieceAt
-piecesOf text w = operandPieces text (w .a) ++ (operandPieces text (w .b) ++ operandPieces text (w .c))
-
--- the metadata that a declaration of metadata says; for I/O and cells it is never asked
-abbrev pub setOf : List ℕ → Sofar → ℕ → Meta
-setOf text so k = meta setMeta [] [] (map (refRow (so .metaNumbers)) (membersAt text k)) [] 0 0 0
-
-unfoldable pub added : List ℕ → Sofar → ℕ → Decl → Sofar
-added text so index (decl.Set m) = withMeta so index (setOf text so (m .at))
-added text so index (decl.Source f r) = withMeta so index (sourceOf (stringIn text f) r)
-added text so index (decl.Scope l i s) = withMeta so index (scopeOf text l (refRow (so .metaNumbers) i) (refRow (so .metaNumbers) s))
-added text so index (decl.Ident n i) = withMeta so index (meta identMeta (stringIn text n) [] [] [] (refRow (so .metaNumbers) i) 0 0)
-added text so index (decl.Attr n p) = withMeta so index (attrOf text (stringIn text n) p)
-added text so index (decl.Io n w) = withIo so (record { name = stringIn text n; width = w })
-added text so index (decl.Cell w) = withCell so index (cellOf text so w) (piecesOf text w)
+unfoldable pub added : Sofar → ℕ → Said → Sofar
+added so index (metadata m) = withMeta so index m
+added so index (pad i) = withIo so i
+added so index (cell c a b d ps) = withCell so index c ps
 
 -- RULE 9: "index or name declared twice"; `!` and `%` indices, I/O names, input names and output names are five name spaces
 abbrev pub declares : List ℕ → ℕ → Bool
 declares numbers index = leb 1 (rowOf numbers index)
 
-abbrev pub cellTwice : List ℕ → Sofar → ℕ → Wiring → Bool
-cellTwice text so index w =
-    declares (so .cellNumbers) index
-    || (kindAt (w .kind) .named && taken (stringIn text (w .name)) (namesAs (w .kind) (so .netlist .cells)))
-
-abbrev pub twice : List ℕ → Sofar → ℕ → Decl → Bool
-twice text so index (decl.Set m) = declares (so .metaNumbers) index
-twice text so index (decl.Source f r) = declares (so .metaNumbers) index
-twice text so index (decl.Scope l i s) = declares (so .metaNumbers) index
-twice text so index (decl.Ident n i) = declares (so .metaNumbers) index
-twice text so index (decl.Attr n p) = declares (so .metaNumbers) index
-twice text so index (decl.Io n w) = taken (stringIn text n) (ioNames (so .netlist .ios))
-twice text so index (decl.Cell w) = cellTwice text so index w
+abbrev pub twice : Sofar → ℕ → Said → Bool
+twice so index (metadata m) = declares (so .metaNumbers) index
+twice so index (pad i) = taken (i .name) (ioNames (so .netlist .ios))
+twice so index (cell c a b d ps) =
+    declares (so .cellNumbers) index || (kindAt (c .kind) .named && taken (c .name) (namesAs (c .kind) (so .netlist .cells)))
 
 -- RULE 10: "metadata reference missing, later or of the wrong kind", at the first such. What each reference may name:
 pub record Asked : Type 0 where
@@ -124,49 +123,35 @@ unfoldable pub firstMisnamed : Sofar → List Asked → Option Place
 firstMisnamed so [] = none
 firstMisnamed so (q ∷ qs) = elim (misnamed so q) [ true ↦ some (q .ref .place) | false ↦ firstMisnamed so qs ]
 
--- RULES 11 AND 12 of metadata are those of the metadata said; of I/O and cells they look at the form alone
-unfoldable pub lastMeta : List Meta → Meta
-lastMeta [] = meta 0 [] [] [] [] 0 0 0
-lastMeta (m ∷ []) = m
-lastMeta (m ∷ n ∷ ms) = lastMeta (n ∷ ms)
-
-abbrev pub metaSaid : List ℕ → Sofar → Decl → Meta
-metaSaid text so d = lastMeta (added text so 0 d .netlist .metas)
-
 -- RULE 11: "empty name, bad range, short set"
-abbrev pub incomplete : List ℕ → Sofar → Decl → Bool
-incomplete text so (decl.Set m) = not (complete (metaSaid text so (decl.Set m)))
-incomplete text so (decl.Source f r) = not (complete (metaSaid text so (decl.Source f r)))
-incomplete text so (decl.Scope l i s) = not (complete (metaSaid text so (decl.Scope l i s)))
-incomplete text so (decl.Ident n i) = not (complete (metaSaid text so (decl.Ident n i)))
-incomplete text so (decl.Attr n p) = not (complete (metaSaid text so (decl.Attr n p)))
-incomplete text so (decl.Io n w) = isEmpty (stringIn text n)
-incomplete text so (decl.Cell w) = kindAt (w .kind) .named && isEmpty (stringIn text (w .name))
+abbrev pub incomplete : Said → Bool
+incomplete (metadata m) = not (complete m)
+incomplete (pad i) = isEmpty (i .name)
+incomplete (cell c a b d ps) = kindAt (c .kind) .named && isEmpty (c .name)
 
 -- RULE 12: "width rule"
-abbrev pub misfit : List ℕ → Sofar → Decl → Bool
-misfit text so (decl.Set m) = false
-misfit text so (decl.Source f r) = false
-misfit text so (decl.Scope l i s) = false
-misfit text so (decl.Ident n i) = false
-misfit text so (decl.Attr n p) = not (attrWidth (metaSaid text so (decl.Attr n p)))
-misfit text so (decl.Io n w) = not (wide w)
-misfit text so (decl.Cell w) = not (cellWidth (w .kind) (w .width) (w .a .width) (w .b .width) (w .c .width))
+abbrev pub misfit : Said → Bool
+misfit (metadata m) = not (attrWidth m)
+misfit (pad i) = not (wide (i .width))
+misfit (cell c a b d ps) = not (cellWidth (c .kind) (c .width) a b d)
 
 -- RULE 13: "a limit of Room passed"
-abbrev pub cramped : List ℕ → Sofar → ℕ → Decl → Bool
-cramped text so index d = not (roomy (added text so index d .netlist))
+abbrev pub cramped : Sofar → ℕ → Said → Bool
+cramped so index s = not (roomy (added so index s .netlist))
 
 -- Document 01, Refusal numbers: "then 9 to 13 by number"
-abbrev pub ruled : List ℕ → Sofar → Declared → Option Place → Option Refusal
-ruled text so d (some p) = some (refusal 10 p)
-ruled text so d none =
-    pick (incomplete text so (d .decl)) (some (refusal 11 (d .place)))
-    (pick (misfit text so (d .decl)) (some (refusal 12 (d .place)))
-    (pick (cramped text so (d .index) (d .decl)) (some (refusal 13 (d .place)))
+abbrev pub ruled : Sofar → Declared → Said → Option Place → Option Refusal
+ruled so d s (some p) = some (refusal 10 p)
+ruled so d s none =
+    pick (incomplete s) (some (refusal 11 (d .place)))
+    (pick (misfit s) (some (refusal 12 (d .place)))
+    (pick (cramped so (d .index) s) (some (refusal 13 (d .place)))
     none))
 
+abbrev pub ruledOn : List ℕ → Sofar → Declared → Said → Option Refusal
+ruledOn text so d s =
+    pick (twice so (d .index) s) (some (refusal 9 (d .place)))
+    (ruled so d s (firstMisnamed so (askedOf text (d .decl))))
+
 unfoldable pub ruledOut : List ℕ → Sofar → Declared → Option Refusal
-ruledOut text so d =
-    pick (twice text so (d .index) (d .decl)) (some (refusal 9 (d .place)))
-    (ruled text so d (firstMisnamed so (askedOf text (d .decl))))
+ruledOut text so d = ruledOn text so d (saidBy text so (d .decl))

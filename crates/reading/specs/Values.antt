@@ -1,5 +1,5 @@
 -- What a declaration says, as a value: strings decoded, references as rows, operands as longest runs over the author's numbers.
-use Prim.Native.Nat.{ℕ, zero, suc, _+_, _-_}
+use Prim.Native.Nat.{ℕ, zero, suc, _+_}
 use mathlib.Core.Bool.{Bool, true, false}
 use mathlib.Core.List.{List, [], _∷_, _++_, map}
 use lib.Dec.{eqb}
@@ -9,7 +9,7 @@ use Rattle.ground.specs.Regions.{part}
 use Rattle.ground.specs.declared.Place.{Place}
 use Rattle.lexis.specs.Bytes.{tritOf}
 use Rattle.lexis.specs.Pieces.{decoded}
-use Rattle.form.specs.Parts.{PartAt, partsAt, membersAt}
+use Rattle.form.specs.Parts.{partsAt}
 use Rattle.form.specs.declared.Str.{Str}
 use Rattle.form.specs.declared.Ref.{Ref}
 use Rattle.form.specs.declared.Piece.{Piece}
@@ -23,10 +23,7 @@ use Rattle.form.specs.declared.Label.the-variants as label
 use Rattle.form.specs.declared.Payload.{Payload}
 use Rattle.form.specs.declared.Payload.the-variants as payload
 use Rattle.form.specs.declared.Range.{Range}
-use Rattle.form.specs.declared.Wiring.{Wiring}
-use Rattle.form.specs.declared.Decl.{Decl}
-use Rattle.form.specs.declared.Decl.the-variants as decl
-use Rattle.netlist.specs.Netlist.{Run, Meta, Io, Cell, Netlist, setMeta, sourceMeta, scopeMeta, indexedMeta, identMeta, bitsMeta, integerMeta, stringMeta}
+use Rattle.netlist.specs.Netlist.{Run, Meta, Cell, sourceMeta, scopeMeta, indexedMeta, bitsMeta, integerMeta, stringMeta}
 use Rattle.netlist.specs.Runs.{Bit, falling, knownBits, cut}
 
 -- the row of an author's number plus one; 0 where it is not declared

@@ -1,6 +1,6 @@
 -- The translation. Document 01, Load list: "A translation is: constants 0, 1, X; input bits by row, bit 0 first; the other cells, each
 -- time the lowest unplaced row whose cells are all placed; output bits by row."
-use Prim.Native.Nat.{ℕ, zero, suc, _+_}
+use Prim.Native.Nat.{ℕ, _+_}
 use mathlib.Core.List.{List, [], _∷_, _++_}
 use lib.ListN.{length}
 use Rattle.ground.specs.Lists.{total, upFrom, updated}

@@ -4,11 +4,11 @@ use Prim.Native.Nat.{ℕ, _+_, _<_}
 use lib.Dec.{eqb, leb, ltb}
 use Rattle.ground.specs.Choice.{pick}
 
--- "not: X stays X"
+-- Document 01, Cells: not, "X stays X"
 unfoldable pub notOf : ℕ → ℕ
 notOf a = pick (eqb a 0) 1 (pick (eqb a 1) 0 2)
 
--- "0 and X = 0; any other gate with an X gives X"
+-- "0 and X = 0", and "any other gate with an X gives X"
 unfoldable pub andOf : ℕ → ℕ → ℕ
 andOf a b = pick (eqb a 0) 0 (pick (eqb b 0) 0 (pick (ltb 1 a) 2 (pick (ltb 1 b) 2 1)))
 

@@ -16,7 +16,7 @@ pairs f [] ys = []
 pairs f (a ∷ xs) [] = []
 pairs f (a ∷ xs) (b ∷ ys) = f a b ∷ pairs f xs ys
 
--- "bit i is a xor b xor carry; the next carry is the carry rule; the top bit is the last carry"
+-- "bit i is a xor b xor carry", the next carry is by the carry rule, and "the top bit is the last carry"
 unfoldable pub adcBits : List ℕ → List ℕ → ℕ → List ℕ
 adcBits [] ys c = c ∷ []
 adcBits (a ∷ xs) [] c = c ∷ []
