@@ -1,5 +1,7 @@
 // Form: from tokens to the form of one declaration. It promises that each declaration taken, and each refusal 5 to 8 with its
 // place, is the one that the definitions of specs/ give. The rules 9 to 14 stand above it, the tokens below.
+pub mod words;
+
 use ground::Place;
 use ground::Refusal;
 use lexis::Reader;

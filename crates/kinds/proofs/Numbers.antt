@@ -17,8 +17,20 @@ pub no-kind : (n : ℕ) → 12 < n → kindAt n ≡ noKind
 unfolding kindAt
 no-kind n h =
     let d : (k : ℕ) → k ≤ 12 → eqb n k ≡ false = λ k l. ne-eqb n k (λ e. omega arith) in
-    rw (d 1 (omega arith), d 2 (omega arith), d 3 (omega arith), d 4 (omega arith), d 5 (omega arith), d 6 (omega arith)
-    , d 7 (omega arith), d 8 (omega arith), d 9 (omega arith), d 10 (omega arith), d 11 (omega arith), d 12 (omega arith))
+    rw (
+      d 1 (omega arith),
+      d 2 (omega arith),
+      d 3 (omega arith),
+      d 4 (omega arith),
+      d 5 (omega arith),
+      d 6 (omega arith),
+      d 7 (omega arith),
+      d 8 (omega arith),
+      d 9 (omega arith),
+      d 10 (omega arith),
+      d 11 (omega arith),
+      d 12 (omega arith),
+    )
 
 abbrev operands : List ℕ
 operands = 0 ∷ 0 ∷ 1 ∷ 1 ∷ 1 ∷ 2 ∷ 2 ∷ 2 ∷ 3 ∷ 3 ∷ 2 ∷ 2 ∷ 2 ∷ []
