@@ -5,7 +5,7 @@ ghost use mathlib.Core.Bool.{_&&_};
 ghost use lib.ListN.{take, drop};
 ghost use Rattle.ground.specs.Text.{same};
 ghost use Rattle.kinds.specs.Kinds.{keywords};
-ghost use Rattle.form.specs.Words.{isMark, isSpelled, numbered, kindOf};
+ghost use Rattle.form.specs.Words.{isSort, isMark, isSpelled, numbered, kindOf};
 
 // The same bytes, one by one.
 fn same_bytes(a: &[u8], b: &[u8]) -> bool
@@ -51,6 +51,12 @@ pub fn is_word(text: &[u8], token: Token, word: &[u8]) -> bool
         return same_bytes(run_at(text, from, size), word);
     }
     false
+}
+
+pub fn is_sort(sort: u8, token: Token) -> bool
+    ensures { λ r. ⌜ r ≡ isSort sort token ⌝ }
+{
+    token.sort == sort
 }
 
 // A special character.

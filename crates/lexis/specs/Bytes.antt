@@ -1,6 +1,6 @@
 -- The classes of bytes. Document 01, Text: "A byte's class (white, digit, letter, sigil, bracket and so on) comes from a table of
 -- 256 classes". The rule is a list of ranges, each with its class; a byte that no range holds has the class `other`.
-use Prim.Native.Nat.{ℕ, _-_}
+use Prim.Native.Nat.{ℕ, zero, suc, _+_, _-_}
 use mathlib.Core.Bool.{Bool, true, false}
 use mathlib.Core.List.{List, [], _∷_}
 use lib.Dec.{leb, ltb, eqb}
@@ -47,22 +47,35 @@ classFrom (c ∷ cs) b = elim (inRange (c .bytes) b) [ true ↦ c .number | fals
 unfoldable pub classOf : ℕ → ℕ
 classOf b = classFrom classes b
 
+-- the classes of n bytes, from the byte b on
+unfoldable pub classesFrom : ℕ → ℕ → List ℕ
+classesFrom b zero = []
+classesFrom b (suc n) = classOf b ∷ classesFrom (b + 1) n
+
+-- the table: entry b is the class of the byte b
+unfoldable pub table : List ℕ
+table = classesFrom 0 256
+
+-- a byte of the classes from low to high
+abbrev pub among : ℕ → ℕ → ℕ → Bool
+among low high b = within low high (classOf b)
+
 abbrev pub isWhite : ℕ → Bool
-isWhite b = eqb (classOf b) 1
+isWhite b = among 1 1 b
 
 abbrev pub isFeed : ℕ → Bool
 isFeed b = eqb (classOf b) 2
 
 abbrev pub isDigit : ℕ → Bool
-isDigit b = within 4 5 (classOf b)
+isDigit b = among 4 5 b
 
 -- Document 01, Text: "Constants are `0 1 X`"
 abbrev pub isConstant : ℕ → Bool
-isConstant b = within 5 6 (classOf b)
+isConstant b = among 5 6 b
 
 -- Document 01, Text: "A word is letters a-z"
 abbrev pub isLetter : ℕ → Bool
-isLetter b = within 7 8 (classOf b)
+isLetter b = among 7 8 b
 
 -- Document 01, Text: "two of `0-9a-f`"
 abbrev pub isHex : ℕ → Bool

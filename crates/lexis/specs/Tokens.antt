@@ -7,8 +7,12 @@ use lib.ListN.{drop, getD, length}
 use Rattle.ground.specs.Choice.{pick}
 use Rattle.lexis.specs.Bytes.{classOf, isWhite, isFeed, isConstant, isLetter, isSpecial, within}
 use Rattle.ground.specs.Refusals.{at, refusal}
-use Rattle.lexis.specs.Pieces.{spanEnd, commentEnd, insideEnd, Digits, digitsAt, Suffix, suffixAt, Str, whole, broken, stringAt}
+use Rattle.lexis.specs.Pieces.{spanEnd, commentEnd, insideEnd, numeralAt, partLimit, suffixAt, quotedAt}
 use Rattle.ground.specs.declared.Place.{Place}
+use Rattle.lexis.specs.declared.pieces.Numeral.{Numeral}
+use Rattle.lexis.specs.declared.pieces.Suffix.{Suffix}
+use Rattle.lexis.specs.declared.pieces.Quoted.{Quoted}
+use Rattle.lexis.specs.declared.pieces.Quoted.the-variants.{Closed, Malformed}
 use Rattle.lexis.specs.declared.Reader.{Reader}
 use Rattle.lexis.specs.declared.Token.{Token}
 use Rattle.lexis.specs.declared.Step.{Step}
@@ -73,57 +77,56 @@ token sort k value from size parts offset width count =
 abbrev pub took : Token → ℕ → Step
 took t k = Took t (record { next = at k })
 
+abbrev pub refused : ℕ → ℕ → Step
+refused n k = Refused (refusal n (at k))
+
 -- a token without parts
 abbrev pub plain : ℕ → ℕ → ℕ → ℕ → ℕ → Token
 plain sort k value from size = token sort k value from size 0 0 0 0
 
--- Document 01, Text: "Indices, offsets, widths, counts: at most 65,535"
-abbrev pub tooLarge : ℕ → Bool
-tooLarge n = ltb 65535 n
-
 -- the token at the place k, 5 where it is malformed, 6 where a number in it is too large
 abbrev pub judged : Bool → Bool → ℕ → Step → Step
-judged malformed large k s = pick malformed (Refused (refusal 5 (at k))) (pick large (Refused (refusal 6 (at k))) s)
+judged malformed large k s = pick malformed (refused 5 k) (pick large (refused 6 k) s)
+
+-- a token that is one numeral, whose digits begin at `from`: the value means it, and the token ends at `end`
+abbrev pub single : ℕ → ℕ → ℕ → Numeral → ℕ → ℕ → Step
+single sort k from i value end = judged (eqb (i .end) from) (i .large) k (took (plain sort k value 0 0) end)
 
 -- 001, Metadata identifiers: `!` and digits
 unfoldable pub metaOf : List ℕ → ℕ → Step
-metaOf text k =
-    let i = digitsAt text (k + 1) in
-    judged (eqb (i .end) (k + 1)) (tooLarge (i .value)) k (took (plain meta k (i .value) 0 0) (i .end))
+metaOf text k = let i = numeralAt partLimit text (k + 1) in single meta k (k + 1) i (i .value) (i .end)
 
 -- 001, Decimal numbers: `#`, an optional `-`, digits. Document 01, Text: "-2,147,483,648 to 2,147,483,647"
 abbrev pub signedOf : Bool → ℕ → ℕ
 signedOf minus n = pick (minus && ltb 0 n) (4294967296 - n) n
 
-abbrev pub numberFrom : Bool → Digits → ℕ → ℕ → Step
-numberFrom minus d from k =
-    judged (eqb (d .end) from) (ltb (pick minus 2147483648 2147483647) (d .value)) k
-    (took (plain number k (signedOf minus (d .value)) 0 0) (d .end))
+abbrev pub numberFrom : Bool → Numeral → ℕ → ℕ → Step
+numberFrom minus i from k = single number k from i (signedOf minus (i .value)) (i .end)
 
 unfoldable pub numberOf : List ℕ → ℕ → Step
 numberOf text k =
     pick (eqb (getD text (k + 1) 0) 45)
-    (numberFrom true (digitsAt text (k + 2)) (k + 2) k)
-    (numberFrom false (digitsAt text (k + 1)) (k + 1) k)
+    (numberFrom true (numeralAt 2147483648 text (k + 2)) (k + 2) k)
+    (numberFrom false (numeralAt 2147483647 text (k + 1)) (k + 1) k)
 
 -- 001, Constants and Repetitions: trits, and `*` with a count behind them
-unfoldable pub constantOf : List ℕ → ℕ → Step
-constantOf text k =
-    let e = spanEnd isConstant (drop k text) k in
-    let c = suffixAt text 42 e in
-    judged (c .broken) (tooLarge (c .value)) k
+abbrev pub constantFrom : ℕ → ℕ → Suffix → Step
+constantFrom k e c =
+    judged (c .broken) (c .large) k
     (took (token constant k 0 k (e - k) (written false false (c .given)) 0 0 (c .value)) (c .end))
 
+unfoldable pub constantOf : List ℕ → ℕ → Step
+constantOf text k = let e = spanEnd isConstant (drop k text) k in constantFrom k e (suffixAt text 42 e)
+
 -- 001, Cell identifiers and Repetitions: `%i`, `%i:w`, `%i+o`, `%i+o:w`, each with a count; a bit is 1 wide where no width is written
-abbrev pub cellFrom : ℕ → Digits → Suffix → Suffix → Suffix → Step
+abbrev pub cellFrom : ℕ → Numeral → Suffix → Suffix → Suffix → Step
 cellFrom k i o w c =
     judged (eqb (i .end) (k + 1) || (o .broken || (w .broken || c .broken)))
-    (tooLarge (i .value) || (tooLarge (o .value) || (tooLarge (w .value) || tooLarge (c .value)))) k
+    (i .large || (o .large || (w .large || c .large))) k
     (took (token cell k (i .value) 0 0 (written (o .given) (w .given) (c .given)) (o .value) (pick (w .given) (w .value) 1) (c .value)) (c .end))
 
-abbrev pub placeholderFrom : ℕ → Digits → Step
-placeholderFrom k i =
-    judged (eqb (i .end) (k + 1)) (tooLarge (i .value)) k (took (plain placeholder k (i .value) 0 0) (i .end + 2))
+abbrev pub placeholderFrom : ℕ → Numeral → Step
+placeholderFrom k i = single placeholder k (k + 1) i (i .value) (i .end + 2)
 
 -- `:_` at the place
 abbrev pub opensPlaceholder : List ℕ → ℕ → Bool
@@ -131,7 +134,7 @@ opensPlaceholder text k = eqb (getD text k 0) 58 && eqb (getD text (k + 1) 0) 95
 
 unfoldable pub cellOf : List ℕ → ℕ → Step
 cellOf text k =
-    let i = digitsAt text (k + 1) in
+    let i = numeralAt partLimit text (k + 1) in
     let o = suffixAt text 43 (i .end) in
     let w = suffixAt text 58 (o .end) in
     let c = suffixAt text 42 (w .end) in
@@ -140,27 +143,27 @@ cellOf text k =
 -- 001, I/O identifiers: `&"s"`, `&"s":w`, `&"s"+o`, `&_`, `&_:w`
 abbrev pub ioFrom : ℕ → ℕ → Suffix → Suffix → Step
 ioFrom k size o w =
-    judged (o .broken || w .broken) (tooLarge (o .value) || tooLarge (w .value)) k
+    judged (o .broken || w .broken) (o .large || w .large) k
     (took (token io k 0 (k + 2) size (written (o .given) (w .given) false) (o .value) (w .value) 0) (pick (o .given) (o .end) (w .end)))
 
-abbrev pub namedFrom : List ℕ → ℕ → Str → Step
-namedFrom text k (whole bs e) = ioFrom k (length bs) (suffixAt text 43 e) (suffixAt text 58 e)
-namedFrom text k broken = Refused (refusal 5 (at k))
+abbrev pub namedFrom : List ℕ → ℕ → Quoted → Step
+namedFrom text k (Closed n e) = ioFrom k n (suffixAt text 43 e) (suffixAt text 58 e)
+namedFrom text k Malformed = refused 5 k
 
 abbrev pub floatingFrom : ℕ → Suffix → Step
 floatingFrom k w =
-    judged (w .broken) (tooLarge (w .value)) k (took (token floating k 0 0 0 (written false (w .given) false) 0 (w .value) 0) (w .end))
+    judged (w .broken) (w .large) k (took (token floating k 0 0 0 (written false (w .given) false) 0 (w .value) 0) (w .end))
 
 unfoldable pub ioOf : List ℕ → ℕ → Step
 ioOf text k =
     pick (eqb (getD text (k + 1) 0) 95) (floatingFrom k (suffixAt text 58 (k + 2)))
-    (pick (eqb (getD text (k + 1) 0) 34) (namedFrom text k (stringAt text (k + 2)))
-    (Refused (refusal 5 (at k))))
+    (pick (eqb (getD text (k + 1) 0) 34) (namedFrom text k (quotedAt text (k + 2)))
+    (refused 5 k))
 
 -- 001, Strings
-abbrev pub stringStep : ℕ → Str → Step
-stringStep k (whole bs e) = took (plain string k 0 (k + 1) (length bs)) e
-stringStep k broken = Refused (refusal 5 (at k))
+abbrev pub stringStep : ℕ → Quoted → Step
+stringStep k (Closed n e) = took (plain string k 0 (k + 1) n) e
+stringStep k Malformed = refused 5 k
 
 unfoldable pub wordOf : List ℕ → ℕ → Step
 wordOf text k = let e = spanEnd isLetter (drop k text) k in took (plain word k 0 k (e - k)) e
@@ -174,8 +177,8 @@ longOf text k b =
     (pick (eqb b 33) (metaOf text k)
     (pick (eqb b 38) (ioOf text k)
     (pick (eqb b 37) (cellOf text k)
-    (pick (eqb b 34) (stringStep k (stringAt text (k + 1)))
-    (Refused (refusal 5 (at k)))))))))
+    (pick (eqb b 34) (stringStep k (quotedAt text (k + 1)))
+    (refused 5 k)))))))
 
 -- Document 01, Text: "Two tokens need white space between them unless one is `[ ] ( ) { } = ,`; else 5 at the second".
 -- A token at the place k follows on another where the byte before is neither white space nor a special character.
@@ -191,7 +194,7 @@ tokenFrom text k (b ∷ s) =
     (pick (eqb b 13) (took (plain lineEnd k 0 0 0) (k + 2))
     (pick (eqb b 59) (took (plain lineEnd k 0 0 0) (commentEnd s (k + 1)))
     (pick (isSpecial b) (took (plain mark k b 0 0) (k + 1))
-    (pick (follows text k) (Refused (refusal 5 (at k)))
+    (pick (follows text k) (refused 5 k)
     (longOf text k b)))))
 
 abbrev pub standingAt : List ℕ → ℕ → Step

@@ -1,5 +1,9 @@
 // Lexis: from bytes to tokens. It promises that each token, and each refusal 2 to 6 with its place, is the one
 // that the definitions of specs/ give. The form of declarations stands above it, the ground below.
+pub mod classes;
+pub mod pieces;
+pub mod tokens;
+
 use ground::Place;
 use ground::Refusal;
 
