@@ -127,13 +127,20 @@ optionFrom text w k (step.Refused g) = linked.Refused g
 unfoldable pub optionAt : List ℕ → List ℕ → ℕ → Linked
 optionAt text w k = optionFrom text w k (tokenAt text k)
 
+-- a scope's own name
+abbrev pub isLabel : Token → Bool
+isLabel n = isSort string n || isSort number n
+
+abbrev pub labelOf : Token → Label
+labelOf n = pick (isSort string n) (Named (str n)) (Indexed (n .value))
+
 -- Document 01, Metadata: "`in=` names a scope, `src=` a source, in that order"; both optional
 unfoldable pub scopeForm : List ℕ → Token → ℕ → Form
 scopeForm text t k =
-    after (only (λ n. isSort string n || isSort number n) (tokenAt text k)) (λ n k1.
+    after (only isLabel (tokenAt text k)) (λ n k1.
     afterRef (optionAt text (bytes "in") k1) (λ inside k2.
     afterRef (optionAt text (bytes "src") k2) (λ source k3.
-    ended text t (decl.Scope (pick (isSort string n) (Named (str n)) (Indexed (n .value))) inside source) k3)))
+    ended text t (decl.Scope (labelOf n) inside source) k3)))
 
 -- 001, Identifier metadata: `ident "<name>" in=!<scope>`; 001 calls only a scope's parent optional
 unfoldable pub identForm : List ℕ → Token → ℕ → Form
@@ -143,9 +150,12 @@ identForm text t k =
     afterRef (linkAt text k2) (λ inside k3.
     ended text t (decl.Ident (str n) inside) k3)))
 
+abbrev pub isAlone : Token → Bool
+isAlone p = isSort constant p && eqb (p .parts) 0
+
 -- 001, Attribute metadata: a constant alone, a number or a string
 abbrev pub isPayload : Token → Bool
-isPayload p = (isSort constant p && eqb (p .parts) 0) || (isSort number p || isSort string p)
+isPayload p = isAlone p || (isSort number p || isSort string p)
 
 abbrev pub payloadOf : Token → Payload
 payloadOf p = pick (isSort constant p) (payload.Bits (str p)) (pick (isSort number p) (payload.Integer (p .value)) (payload.Text (str p)))
@@ -215,12 +225,18 @@ bodyForm text t k =
     (pick (isSort io t) (ioForm text t w k2)
     (cellForm text t w k2))))
 
+abbrev pub isOpening : Token → Bool
+isOpening t = isSort meta t || (opens io t || opens cell t)
+
 -- 8: "`set` opening a declaration, a placeholder"; any other token that opens none is 7
+abbrev pub noOpening : List ℕ → Token → ℕ
+noOpening text t = pick (isSort placeholder t || isWord text "set" t) 8 7
+
 unfoldable pub openForm : List ℕ → Token → ℕ → Form
 openForm text t k =
     pick (isSort textEnd t) form.End
-    (pick (isSort meta t || (opens io t || opens cell t)) (bodyForm text t k)
-    (form.Refused (refusal (pick (isSort placeholder t || isWord text "set" t) 8 7) (t .place))))
+    (pick (isOpening t) (bodyForm text t k)
+    (form.Refused (refusal (noOpening text t) (t .place))))
 
 -- THE DECLARATION from the place on. 001, General structure: `<ident> = <keyword> <operand>...`
 unfoldable pub formAt : List ℕ → ℕ → Form
