@@ -1,33 +1,40 @@
 -- The form of a declaration, token by token from the left: refusals 5 to 8 with their places.
 use Prim.Native.Nat.{ℕ}
-use Prim.Native.String.{String}
 use mathlib.Core.Bool.{Bool, true, false, _&&_, _||_}
 use mathlib.Core.List.{List}
-use lib.Dec.{leb, eqb}
+use lib.Dec.{leb, ltb, eqb}
+use lib.ListN.{length}
 use Rattle.ground.specs.Choice.{pick}
 use Rattle.ground.specs.Refusals.{at, refusal}
+use Rattle.ground.specs.Text.{bytes}
 use Rattle.kinds.specs.Kinds.{kindAt}
 use Rattle.lexis.specs.Tokens.{tokenAt, insideAt, lineEnd, textEnd, word, constant, number, meta, io, cell, string, placeholder}
+use Rattle.ground.specs.declared.Place.{Place}
+use Rattle.lexis.specs.declared.Reader.{Reader}
 use Rattle.lexis.specs.declared.Token.{Token}
 use Rattle.lexis.specs.declared.Step.{Step}
 use Rattle.lexis.specs.declared.Step.the-variants as step
-use Rattle.form.specs.Words.{isSort, isMark, isWord, kindOf}
+use Rattle.form.specs.Words.{isSort, isMark, isSpelled, isWord, kindOf}
 use Rattle.form.specs.Parts.{str, ref, noRef, noOperand, operandAt, setAt}
 use Rattle.form.specs.declared.Str.{Str}
 use Rattle.form.specs.declared.Ref.{Ref}
 use Rattle.form.specs.declared.Operand.{Operand}
 use Rattle.form.specs.declared.Point.{Point}
+use Rattle.form.specs.declared.Label.{Label}
 use Rattle.form.specs.declared.Label.the-variants.{Named, Indexed}
 use Rattle.form.specs.declared.Payload.{Payload}
 use Rattle.form.specs.declared.Payload.the-variants as payload
 use Rattle.form.specs.declared.Decl.{Decl}
 use Rattle.form.specs.declared.Decl.the-variants as decl
+use Rattle.form.specs.declared.Declared.{Declared}
 use Rattle.form.specs.declared.Form.{Form}
 use Rattle.form.specs.declared.Form.the-variants as form
 use Rattle.form.specs.declared.Measured.{Measured}
 use Rattle.form.specs.declared.Measured.the-variants as measured
 use Rattle.form.specs.declared.Taken.{Taken}
 use Rattle.form.specs.declared.Taken.the-variants as taken
+use Rattle.form.specs.declared.Pointed.{Pointed}
+use Rattle.form.specs.declared.Pointed.the-variants as pointed
 use Rattle.form.specs.declared.Linked.{Linked}
 use Rattle.form.specs.declared.Linked.the-variants as linked
 
@@ -72,49 +79,68 @@ setForm text t k = afterSet (setAt text k) (λ n k′. ended text t (decl.Set (r
 abbrev pub insideNumber : List ℕ → ℕ → Step
 insideNumber text k = only (isSort number) (insideAt text k)
 
-abbrev pub pointAt : List ℕ → ℕ → (Point → ℕ → Form) → Form
-pointAt text k go =
-    after (markAt text 40 k) (λ _ k1.
-    after (insideNumber text k1) (λ l k2.
-    after (insideNumber text k2) (λ c k3.
-    after (only (isMark 41) (insideAt text k3)) (λ _ k4.
-    go (record { line = l .value; column = c .value }) k4))))
+abbrev pub toPoint : Step → (Token → ℕ → Pointed) → Pointed
+toPoint (step.Took t r) go = go t (r .next .at)
+toPoint (step.Refused g) go = pointed.Refused g
+
+abbrev pub closedPoint : Point → Step → Pointed
+closedPoint p (step.Took t r) = pointed.Took p r
+closedPoint p (step.Refused g) = pointed.Refused g
+
+unfoldable pub pointAt : List ℕ → ℕ → Pointed
+pointAt text k =
+    toPoint (markAt text 40 k) (λ _ k1.
+    toPoint (insideNumber text k1) (λ l k2.
+    toPoint (insideNumber text k2) (λ c k3.
+    closedPoint (record { line = l .value; column = c .value }) (only (isMark 41) (insideAt text k3)))))
+
+abbrev pub afterPoint : Pointed → (Point → ℕ → Form) → Form
+afterPoint (pointed.Took p r) go = go p (r .next .at)
+afterPoint (pointed.Refused g) go = form.Refused g
 
 -- 001, Source metadata: `source "<file>" (#<start-line> #<start-col>) (#<end-line> #<end-col>)`
 unfoldable pub sourceForm : List ℕ → Token → ℕ → Form
 sourceForm text t k =
     after (sortAt text string k) (λ file k1.
-    pointAt text k1 (λ first k2.
-    pointAt text k2 (λ last k3.
+    afterPoint (pointAt text k1) (λ first k2.
+    afterPoint (pointAt text k2) (λ last k3.
     ended text t (decl.Source (str file) (record { first = first; last = last })) k3)))
 
--- `=!m` behind an option's word
-abbrev pub linkAt : List ℕ → ℕ → Linked
-linkAt text k = linkFrom (only (isMark 61) (tokenAt text k))
-  where
-    metaFrom : Step → Linked
-    metaFrom (step.Took t r) = linked.Took (ref t) r
-    metaFrom (step.Refused g) = linked.Refused g
+-- a reference that must stand next
+abbrev pub linkOf : Step → Linked
+linkOf (step.Took t r) = linked.Took (ref t) r
+linkOf (step.Refused g) = linked.Refused g
 
-    linkFrom : Step → Linked
-    linkFrom (step.Took t r) = metaFrom (only (isSort meta) (tokenAt text (r .next .at)))
-    linkFrom (step.Refused g) = linked.Refused g
+abbrev pub linkFrom : List ℕ → Step → Linked
+linkFrom text (step.Took t r) = linkOf (sortAt text meta (r .next .at))
+linkFrom text (step.Refused g) = linked.Refused g
+
+-- `=!m` behind an option's word
+unfoldable pub linkAt : List ℕ → ℕ → Linked
+linkAt text k = linkFrom text (markAt text 61 k)
+
+abbrev pub optionFrom : List ℕ → List ℕ → ℕ → Step → Linked
+optionFrom text w k (step.Took t r) = pick (isSpelled text w t) (linkAt text (r .next .at)) (linked.Took noRef (record { next = at k }))
+optionFrom text w k (step.Refused g) = linked.Refused g
 
 -- an option that may be left out
-unfoldable pub optionAt : List ℕ → String → ℕ → Linked
-optionAt text w k = optionFrom (tokenAt text k)
-  where
-    optionFrom : Step → Linked
-    optionFrom (step.Took t r) = pick (isWord text w t) (linkAt text (r .next .at)) (linked.Took noRef (record { next = at k }))
-    optionFrom (step.Refused g) = linked.Refused g
+unfoldable pub optionAt : List ℕ → List ℕ → ℕ → Linked
+optionAt text w k = optionFrom text w k (tokenAt text k)
+
+-- a scope's own name
+abbrev pub isLabel : Token → Bool
+isLabel n = isSort string n || isSort number n
+
+abbrev pub labelOf : Token → Label
+labelOf n = pick (isSort string n) (Named (str n)) (Indexed (n .value))
 
 -- Document 01, Metadata: "`in=` names a scope, `src=` a source, in that order"; both optional
 unfoldable pub scopeForm : List ℕ → Token → ℕ → Form
 scopeForm text t k =
-    after (only (λ n. isSort string n || isSort number n) (tokenAt text k)) (λ n k1.
-    afterRef (optionAt text "in" k1) (λ inside k2.
-    afterRef (optionAt text "src" k2) (λ source k3.
-    ended text t (decl.Scope (pick (isSort string n) (Named (str n)) (Indexed (n .value))) inside source) k3)))
+    after (only isLabel (tokenAt text k)) (λ n k1.
+    afterRef (optionAt text (bytes "in") k1) (λ inside k2.
+    afterRef (optionAt text (bytes "src") k2) (λ source k3.
+    ended text t (decl.Scope (labelOf n) inside source) k3)))
 
 -- 001, Identifier metadata: `ident "<name>" in=!<scope>`; 001 calls only a scope's parent optional
 unfoldable pub identForm : List ℕ → Token → ℕ → Form
@@ -124,9 +150,12 @@ identForm text t k =
     afterRef (linkAt text k2) (λ inside k3.
     ended text t (decl.Ident (str n) inside) k3)))
 
+abbrev pub isAlone : Token → Bool
+isAlone p = isSort constant p && eqb (p .parts) 0
+
 -- 001, Attribute metadata: a constant alone, a number or a string
 abbrev pub isPayload : Token → Bool
-isPayload p = (isSort constant p && eqb (p .parts) 0) || (isSort number p || isSort string p)
+isPayload p = isAlone p || (isSort number p || isSort string p)
 
 abbrev pub payloadOf : Token → Payload
 payloadOf p = pick (isSort constant p) (payload.Bits (str p)) (pick (isSort number p) (payload.Integer (p .value)) (payload.Text (str p)))
@@ -158,13 +187,13 @@ ioForm text t w k = pick (isWord text "io" w) (ended text t (decl.Io (str t) (t 
 unfoldable pub operandIf : Bool → List ℕ → ℕ → Taken
 operandIf given text k = elim given [ true ↦ operandAt text k | false ↦ taken.Took noOperand (record { next = at k }) ]
 
+abbrev pub metaFrom : ℕ → Step → Linked
+metaFrom k (step.Took t r) = pick (isSort meta t) (linked.Took (ref t) r) (linked.Took noRef (record { next = at k }))
+metaFrom k (step.Refused g) = linked.Refused g
+
 -- Document 01, Cells: "one optional `!m` of any kind at the end"
 unfoldable pub metaIf : List ℕ → ℕ → Linked
-metaIf text k = metaFrom (tokenAt text k)
-  where
-    metaFrom : Step → Linked
-    metaFrom (step.Took t r) = pick (isSort meta t) (linked.Took (ref t) r) (linked.Took noRef (record { next = at k }))
-    metaFrom (step.Refused g) = linked.Refused g
+metaIf text k = metaFrom k (tokenAt text k)
 
 unfoldable pub wiringForm : List ℕ → Token → ℕ → Str → ℕ → Form
 wiringForm text t kind name k =
@@ -196,13 +225,23 @@ bodyForm text t k =
     (pick (isSort io t) (ioForm text t w k2)
     (cellForm text t w k2))))
 
+abbrev pub isOpening : Token → Bool
+isOpening t = isSort meta t || (opens io t || opens cell t)
+
 -- 8: "`set` opening a declaration, a placeholder"; any other token that opens none is 7
+abbrev pub noOpening : List ℕ → Token → ℕ
+noOpening text t = pick (isSort placeholder t || isWord text "set" t) 8 7
+
 unfoldable pub openForm : List ℕ → Token → ℕ → Form
 openForm text t k =
     pick (isSort textEnd t) form.End
-    (pick (isSort meta t || (opens io t || opens cell t)) (bodyForm text t k)
-    (form.Refused (refusal (pick (isSort placeholder t || isWord text "set" t) 8 7) (t .place))))
+    (pick (isOpening t) (bodyForm text t k)
+    (form.Refused (refusal (noOpening text t) (t .place))))
 
 -- THE DECLARATION from the place on. 001, General structure: `<ident> = <keyword> <operand>...`
 unfoldable pub formAt : List ℕ → ℕ → Form
 formAt text k = after (insideAt text k) (λ t k1. openForm text t k1)
+
+-- THE ANSWER for a text of any length. 2: "text too long", at 65,536
+unfoldable pub formOf : List ℕ → ℕ → Form
+formOf text k = pick (ltb 65536 (length text)) (form.Refused (refusal 2 (at 65536))) (formAt text k)

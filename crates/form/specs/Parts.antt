@@ -1,28 +1,37 @@
 -- Operands and sets: their parts, their measure, and the parts again one by one.
-use Prim.Native.Nat.{ℕ, zero, suc, _+_, _*_}
-use mathlib.Core.Bool.{Bool, true, false, _||_}
+use mathlib.Core.Path.{_≡_}
+use Prim.Native.Nat.{ℕ, zero, suc, _+_, _*_, _≤_}
+use mathlib.Core.Bool.{Bool, true, false, _&&_, _||_}
 use mathlib.Core.List.{List, [], _∷_}
-use lib.Dec.{leb}
+use lib.Dec.{leb, eqb}
 use lib.ListN.{length}
 use Rattle.ground.specs.Choice.{pick}
 use Rattle.ground.specs.Refusals.{at, refusal}
 use Rattle.lexis.specs.Tokens.{tokenAt, insideAt, constant, cell, meta, placeholder}
 use Rattle.ground.specs.declared.Place.{Place}
+use Rattle.lexis.specs.declared.Reader.{Reader}
 use Rattle.lexis.specs.declared.Token.{Token}
 use Rattle.lexis.specs.declared.Step.{Step}
 use Rattle.lexis.specs.declared.Step.the-variants as step
 use Rattle.form.specs.Words.{isSort, isMark}
 use Rattle.form.specs.declared.Str.{Str}
+use Rattle.form.specs.declared.Piece.{Piece}
 use Rattle.form.specs.declared.Ref.{Ref}
 use Rattle.form.specs.declared.Operand.{Operand}
 use Rattle.form.specs.declared.Base.{Base}
 use Rattle.form.specs.declared.Base.the-variants.{Constant, Cell}
 use Rattle.form.specs.declared.Part.{Part}
 use Rattle.form.specs.declared.Part.the-variants.{One, Repeated}
+use Rattle.form.specs.declared.Parted.{Parted}
+use Rattle.form.specs.declared.Parted.the-variants as parted
+use Rattle.form.specs.declared.Membered.{Membered}
+use Rattle.form.specs.declared.Membered.the-variants as membered
 use Rattle.form.specs.declared.Measured.{Measured}
 use Rattle.form.specs.declared.Measured.the-variants as measured
 use Rattle.form.specs.declared.Taken.{Taken}
 use Rattle.form.specs.declared.Taken.the-variants as taken
+use Rattle.form.specs.declared.Linked.{Linked}
+use Rattle.form.specs.declared.Linked.the-variants as linked
 
 -- Document 01, Text: "Each operand part is a constant, a cell piece or a repetition of either"
 abbrev pub isPart : Token → Bool
@@ -46,36 +55,54 @@ abbrev pub partWidth : Part → ℕ
 partWidth (One b) = baseWidth b
 partWidth (Repeated b n) = n * baseWidth b
 
+-- the widest that a part of a text of 65,536 bytes can be
+abbrev pub widest : ℕ
+widest = 4294967296
+
+-- a token that is no wider than that, where it is a part
+pub record Narrow (t : Token) : Type 0 where
+  pub width : isPart t ≡ true → partWidth (partOf t) ≤ widest
+
 -- 8 for "a placeholder" where a cell identifier may stand, else 7 for "token not allowed there"
 abbrev pub refusedPart : Token → ℕ
 refusedPart t = pick (isSort placeholder t) 8 7
 
+abbrev pub partedOf : Step → Parted
+partedOf (step.Refused g) = parted.Refused g
+partedOf (step.Took t r) = pick (isPart t) (parted.Took (partOf t) (t .place) r) (parted.Other t r)
+
+-- what stands next between the brackets of an operand
+unfoldable pub nextPart : List ℕ → ℕ → Parted
+nextPart text k = partedOf (insideAt text k)
+
+-- the token behind the last part of a concatenation of the width n
+abbrev pub concatEnd : ℕ → Token → Reader → Measured
+concatEnd n t r = pick (isMark 93 t) (measured.Closed n r) (measured.Refused (refusal (refusedPart t) (t .place)))
+
 -- 001, Concatenations: parts up to `]`; n is the width so far. "Concatenations don't nest."
 unfoldable pub concatFrom : ℕ → List ℕ → ℕ → ℕ → Measured
 concatFrom zero text n k = measured.Refused (refusal 7 (at k))
-concatFrom (suc f) text n k = elim (insideAt text k) [
-  | step.Refused g ↦ measured.Refused g
-  | step.Took t r ↦ elim (isPart t) [
-    | true ↦ concatFrom f text (n + partWidth (partOf t)) (r .next .at)
-    | false ↦ pick (isMark 93 t) (measured.Closed n r) (measured.Refused (refusal (refusedPart t) (t .place)))
-  ]
+concatFrom (suc f) text n k = elim (nextPart text k) [
+  | parted.Refused g ↦ measured.Refused g
+  | parted.Took p place r ↦ concatFrom f text (n + partWidth p) (r .next .at)
+  | parted.Other t r ↦ concatEnd n t r
 ]
 
 -- each part takes a byte at least
 abbrev pub concatAt : List ℕ → ℕ → Measured
 concatAt text k = concatFrom (suc (length text)) text 0 k
 
-abbrev operand : ℕ → ℕ → Operand
+abbrev pub operand : ℕ → ℕ → Operand
 operand k n = record { given = true; at = k; width = n }
 
 abbrev pub noOperand : Operand
 noOperand = record { given = false; at = 0; width = 0 }
 
-abbrev closedOperand : ℕ → Measured → Taken
+abbrev pub closedOperand : ℕ → Measured → Taken
 closedOperand k (measured.Closed n r) = taken.Took (operand k n) r
 closedOperand k (measured.Refused g) = taken.Refused g
 
-abbrev operandFrom : List ℕ → ℕ → Step → Taken
+abbrev pub operandFrom : List ℕ → ℕ → Step → Taken
 operandFrom text k (step.Refused g) = taken.Refused g
 operandFrom text k (step.Took t r) =
     pick (isPart t) (taken.Took (operand k (partWidth (partOf t))) r)
@@ -93,12 +120,10 @@ pub record PartAt : Type 0 where
 
 unfoldable pub partsFrom : ℕ → List ℕ → ℕ → List PartAt
 partsFrom zero text k = []
-partsFrom (suc f) text k = elim (insideAt text k) [
-  | step.Refused g ↦ []
-  | step.Took t r ↦ elim (isPart t) [
-    | true ↦ record { part = partOf t; place = t .place } ∷ partsFrom f text (r .next .at)
-    | false ↦ []
-  ]
+partsFrom (suc f) text k = elim (nextPart text k) [
+  | parted.Refused g ↦ []
+  | parted.Took p place r ↦ record { part = p; place = place } ∷ partsFrom f text (r .next .at)
+  | parted.Other t r ↦ []
 ]
 
 abbrev partsOf : List ℕ → Step → List PartAt
@@ -117,15 +142,25 @@ ref t = record { given = true; index = t .value; place = t .place }
 abbrev pub noRef : Ref
 noRef = record { given = false; index = 0; place = at 0 }
 
+abbrev pub memberedOf : Step → Membered
+memberedOf (step.Refused g) = membered.Refused g
+memberedOf (step.Took t r) = pick (isSort meta t) (membered.Took (ref t) r) (membered.Other t r)
+
+-- what stands next between the brackets of a set
+unfoldable pub nextMember : List ℕ → ℕ → Membered
+nextMember text k = memberedOf (insideAt text k)
+
+-- the token behind the last of n members
+abbrev pub setEnd : ℕ → Token → Reader → Measured
+setEnd n t r = pick (isMark 125 t) (measured.Closed n r) (measured.Refused (refusal 7 (t .place)))
+
 -- 001, Metadata sets: references up to `}`; n of them so far
 unfoldable pub setFrom : ℕ → List ℕ → ℕ → ℕ → Measured
 setFrom zero text n k = measured.Refused (refusal 7 (at k))
-setFrom (suc f) text n k = elim (insideAt text k) [
-  | step.Refused g ↦ measured.Refused g
-  | step.Took t r ↦ elim (isSort meta t) [
-    | true ↦ setFrom f text (n + 1) (r .next .at)
-    | false ↦ pick (isMark 125 t) (measured.Closed n r) (measured.Refused (refusal 7 (t .place)))
-  ]
+setFrom (suc f) text n k = elim (nextMember text k) [
+  | membered.Refused g ↦ measured.Refused g
+  | membered.Took m r ↦ setFrom f text (n + 1) (r .next .at)
+  | membered.Other t r ↦ setEnd n t r
 ]
 
 abbrev pub setAt : List ℕ → ℕ → Measured
@@ -134,9 +169,10 @@ setAt text k = setFrom (suc (length text)) text 0 k
 -- THE MEMBERS OF A SET of good form
 unfoldable pub membersFrom : ℕ → List ℕ → ℕ → List Ref
 membersFrom zero text k = []
-membersFrom (suc f) text k = elim (insideAt text k) [
-  | step.Refused g ↦ []
-  | step.Took t r ↦ elim (isSort meta t) [ true ↦ ref t ∷ membersFrom f text (r .next .at) | false ↦ [] ]
+membersFrom (suc f) text k = elim (nextMember text k) [
+  | membered.Refused g ↦ []
+  | membered.Took m r ↦ m ∷ membersFrom f text (r .next .at)
+  | membered.Other t r ↦ []
 ]
 
 abbrev pub membersAt : List ℕ → ℕ → List Ref

@@ -21,8 +21,11 @@ isMark b t = isSort mark t && eqb (t .value) b
 abbrev pub letters : List ℕ → Token → List ℕ
 letters text t = take (t .size) (drop (t .from) text)
 
+abbrev pub isSpelled : List ℕ → List ℕ → Token → Bool
+isSpelled text w t = isSort word t && same (letters text t) w
+
 abbrev pub isWord : List ℕ → String → Token → Bool
-isWord text w t = isSort word t && same (letters text t) (bytes w)
+isWord text w t = isSpelled text (bytes w) t
 
 -- the place of the letters in the list, from `n` on; 0 where they are not in it
 unfoldable pub numbered : List String → List ℕ → ℕ → ℕ

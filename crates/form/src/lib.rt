@@ -1,8 +1,13 @@
 // Form: from tokens to the form of one declaration. It promises that each declaration taken, and each refusal 5 to 8 with its
 // place, is the one that the definitions of specs/ give. The rules 9 to 14 stand above it, the tokens below.
+pub mod forms;
+pub mod parts;
+pub mod words;
+
 use ground::Place;
 use ground::Refusal;
 use lexis::Reader;
+use lexis::Token;
 
 // A string or a constant in the text: the place of its first byte, and how many bytes or bits it means.
 pub struct Str {
@@ -122,4 +127,48 @@ pub enum Taken {
 pub enum Linked {
     Took(Ref, Reader),
     Refused(Refusal),
+}
+
+pub enum Pointed {
+    Took(Point, Reader),
+    Refused(Refusal),
+}
+
+// What stands next between the brackets of an operand: a part with its place, another token, or a refusal.
+pub enum Parted {
+    Took(Part, Place, Reader),
+    Other(Token, Reader),
+    Refused(Refusal),
+}
+
+// What stands next between the brackets of a set: a member, another token, or a refusal.
+pub enum Membered {
+    Took(Ref, Reader),
+    Other(Token, Reader),
+    Refused(Refusal),
+}
+
+// Where a walk over the parts of an operand stands: past them, before the one part, or between brackets, where at most `left` parts come.
+pub enum Walk {
+    Past,
+    Alone(Part, Place),
+    Within(Reader, usize),
+}
+
+// A step of that walk: a part with its place and the moved walk, or none.
+pub enum Walked {
+    Part(Part, Place, Walk),
+    Done,
+}
+
+// Where a walk over the members of a set stands, at most `left` of them before it.
+pub struct Tour {
+    pub next: Reader,
+    pub left: usize,
+}
+
+// A step of that walk.
+pub enum Toured {
+    Member(Ref, Tour),
+    Done,
 }

@@ -2,7 +2,7 @@
 // string means are those that the definitions of specs/ give. The form of declarations stands above it, the ground below.
 pub mod classes;
 pub mod decode;
-mod pieces;
+pub mod pieces;
 pub mod scan;
 mod tokens;
 

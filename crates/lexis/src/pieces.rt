@@ -8,14 +8,14 @@ ghost use Rattle.lexis.specs.Bytes.{table, within, among, isHex, isRaw};
 ghost use Rattle.lexis.specs.Pieces.{spanEnd, commentEnd, insideMove, insideEnd, grownPast, limited, numeralAt, suffixAt, takenAt, quotedAt};
 
 // A numeral: its value, or that it is past its limit, and the place past its digits.
-pub(crate) struct Numeral {
+pub struct Numeral {
     pub value: u32,
     pub large: bool,
     pub end: usize,
 }
 
 // A part behind a mark: whether it is written, whether its digits are missing, and its numeral.
-pub(crate) struct Suffix {
+pub struct Suffix {
     pub given: bool,
     pub broken: bool,
     pub large: bool,
@@ -24,7 +24,7 @@ pub(crate) struct Suffix {
 }
 
 // A string: how many bytes it means and the place past its closing quote, or that it is malformed.
-pub(crate) enum Quoted {
+pub enum Quoted {
     Closed { size: usize, end: usize },
     Malformed,
 }

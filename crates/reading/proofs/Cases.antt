@@ -12,8 +12,8 @@ use Rattle.lexis.specs.Whole.{tailOf, badFrom, endsInFeed, wholeOf}
 use Rattle.lexis.specs.Pieces.{spanEnd, commentEnd, insideEnd, digitsFrom, numeralAt, suffixAt, stringFrom, quotedAt}
 use Rattle.lexis.specs.Tokens.{metaOf, numberOf, constantOf, cellOf, ioOf, wordOf, longOf, follows, tokenFrom, tokenAt, insideAt}
 use Rattle.form.specs.Words.{numbered}
-use Rattle.form.specs.Parts.{concatFrom, operandAt, partsFrom, partsAt, setFrom, membersFrom}
-use Rattle.form.specs.Forms.{setForm, sourceForm, optionAt, scopeForm, identForm, attrForm, metaForm, ioForm, operandIf, metaIf, wiringForm, namedForm, cellForm, bodyForm, openForm, formAt}
+use Rattle.form.specs.Parts.{nextPart, concatFrom, operandAt, partsFrom, partsAt, nextMember, setFrom, membersFrom}
+use Rattle.form.specs.Forms.{setForm, pointAt, sourceForm, linkAt, optionAt, scopeForm, identForm, attrForm, metaForm, ioForm, operandIf, metaIf, wiringForm, namedForm, cellForm, bodyForm, openForm, formAt, formOf}
 use Rattle.netlist.specs.Runs.{falling, knownBits, cut, longest}
 use Rattle.netlist.specs.Rules.{taken, distinct, namesAs, roomy, metasSound, valid}
 use Rattle.reading.specs.Values.{rowFrom, copies, operandRuns, operandPieces}
@@ -151,10 +151,10 @@ cases =
     ∷ case "!0 = attr \"\" \"a\"\n" (refusedAt 11 0)
     ∷ case "\n\r" (refusedAt 3 1)
     ∷ case "$ " (refusedAt 4 2)
-    ∷ case ";\0\u{1}\u{7f}\u{b}\n" accepted
+    ∷ case ";\x00\x01\x7f\x0b\n" accepted
     ∷ case " \t\n;x\r\n\r\n" accepted
-    ∷ case "\u{c}\n" (refusedAt 5 0)
-    ∷ case "%0:1 = input \"\u{7f}\"\n" (refusedAt 5 13)
+    ∷ case "\x0c\n" (refusedAt 5 0)
+    ∷ case "%0:1 = input \"\x7f\"\n" (refusedAt 5 13)
     ∷ case "!0 = scope #0\n!1 = {!0 !0}\n!2 = {!0 !1}\n" (refusedAt 10 36)
     ∷ case "%0:1 = buf [0]*1\n" (refusedAt 5 14)
     ∷ case "!1*2 = scope #0\n" (refusedAt 5 2)
@@ -175,5 +175,5 @@ cases =
     ∷ []
 
 decided : map (λ (c : Case). answerOf (reading (c .text))) cases ≡ map (λ (c : Case). c .answer) cases
-unfolding every allOf total joined upFrom updated zeros blank fits pad over part bytes same kindAt classFrom classOf classesFrom table tailOf badFrom endsInFeed wholeOf spanEnd commentEnd insideEnd digitsFrom numeralAt suffixAt stringFrom quotedAt metaOf numberOf constantOf cellOf ioOf wordOf longOf follows tokenFrom tokenAt insideAt numbered concatFrom operandAt partsFrom partsAt setFrom membersFrom setForm sourceForm optionAt scopeForm identForm attrForm metaForm ioForm operandIf metaIf wiringForm namedForm cellForm bodyForm openForm formAt falling knownBits cut longest taken distinct namesAs roomy metasSound valid rowFrom copies operandRuns operandPieces saidBy added firstMisnamed ruledOut declarationsFrom firstUnresolved netlistOf readSound reading
+unfolding every allOf total joined upFrom updated zeros blank fits pad over part bytes same kindAt classFrom classOf classesFrom table tailOf badFrom endsInFeed wholeOf spanEnd commentEnd insideEnd digitsFrom numeralAt suffixAt stringFrom quotedAt metaOf numberOf constantOf cellOf ioOf wordOf longOf follows tokenFrom tokenAt insideAt numbered nextPart concatFrom operandAt partsFrom partsAt nextMember setFrom membersFrom setForm pointAt sourceForm linkAt optionAt scopeForm identForm attrForm metaForm ioForm operandIf metaIf wiringForm namedForm cellForm bodyForm openForm formAt formOf falling knownBits cut longest taken distinct namesAs roomy metasSound valid rowFrom copies operandRuns operandPieces saidBy added firstMisnamed ruledOut declarationsFrom firstUnresolved netlistOf readSound reading
 decided = refl

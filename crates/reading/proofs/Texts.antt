@@ -12,8 +12,8 @@ use Rattle.lexis.specs.Whole.{tailOf, badFrom, endsInFeed, wholeOf}
 use Rattle.lexis.specs.Pieces.{spanEnd, commentEnd, insideEnd, digitsFrom, numeralAt, suffixAt, stringFrom, quotedAt}
 use Rattle.lexis.specs.Tokens.{metaOf, numberOf, constantOf, cellOf, ioOf, wordOf, longOf, follows, tokenFrom, tokenAt, insideAt}
 use Rattle.form.specs.Words.{numbered}
-use Rattle.form.specs.Parts.{concatFrom, operandAt, partsFrom, partsAt, setFrom, membersFrom}
-use Rattle.form.specs.Forms.{setForm, sourceForm, optionAt, scopeForm, identForm, attrForm, metaForm, ioForm, operandIf, metaIf, wiringForm, namedForm, cellForm, bodyForm, openForm, formAt}
+use Rattle.form.specs.Parts.{nextPart, concatFrom, operandAt, partsFrom, partsAt, nextMember, setFrom, membersFrom}
+use Rattle.form.specs.Forms.{setForm, pointAt, sourceForm, linkAt, optionAt, scopeForm, identForm, attrForm, metaForm, ioForm, operandIf, metaIf, wiringForm, namedForm, cellForm, bodyForm, openForm, formAt, formOf}
 use Rattle.netlist.specs.Runs.{falling, knownBits, cut, longest}
 use Rattle.netlist.specs.Rules.{taken, distinct, namesAs, roomy, metasSound, valid}
 use Rattle.reading.specs.Values.{rowFrom, copies, operandRuns, operandPieces}
@@ -333,5 +333,5 @@ texts =
     ∷ []
 
 answered : map (λ (c : Case). answerOf (reading (c .text))) texts ≡ map (λ (c : Case). c .answer) texts
-unfolding every allOf total joined upFrom updated zeros blank fits pad over part bytes same kindAt classFrom classOf classesFrom table tailOf badFrom endsInFeed wholeOf spanEnd commentEnd insideEnd digitsFrom numeralAt suffixAt stringFrom quotedAt metaOf numberOf constantOf cellOf ioOf wordOf longOf follows tokenFrom tokenAt insideAt numbered concatFrom operandAt partsFrom partsAt setFrom membersFrom setForm sourceForm optionAt scopeForm identForm attrForm metaForm ioForm operandIf metaIf wiringForm namedForm cellForm bodyForm openForm formAt falling knownBits cut longest taken distinct namesAs roomy metasSound valid rowFrom copies operandRuns operandPieces saidBy added firstMisnamed ruledOut declarationsFrom firstUnresolved netlistOf readSound reading
+unfolding every allOf total joined upFrom updated zeros blank fits pad over part bytes same kindAt classFrom classOf classesFrom table tailOf badFrom endsInFeed wholeOf spanEnd commentEnd insideEnd digitsFrom numeralAt suffixAt stringFrom quotedAt metaOf numberOf constantOf cellOf ioOf wordOf longOf follows tokenFrom tokenAt insideAt numbered nextPart concatFrom operandAt partsFrom partsAt nextMember setFrom membersFrom setForm pointAt sourceForm linkAt optionAt scopeForm identForm attrForm metaForm ioForm operandIf metaIf wiringForm namedForm cellForm bodyForm openForm formAt formOf falling knownBits cut longest taken distinct namesAs roomy metasSound valid rowFrom copies operandRuns operandPieces saidBy added firstMisnamed ruledOut declarationsFrom firstUnresolved netlistOf readSound reading
 answered = refl
