@@ -1,9 +1,10 @@
-// One record of a list, read byte by byte.
+// One record of a list, read and written byte by byte.
 use crate::Record;
 ghost use mathlib.Core.Path.{_≡_};
-ghost use Prim.Native.Nat.{ℕ, _+_, _*_, _≤_};
-ghost use lib.ListN.{drop, getD};
-ghost use Rattle.loadlist.specs.Records.{recordIn};
+ghost use Prim.Native.Nat.{ℕ, _+_, _*_, _/_, _%_, _≤_};
+ghost use lib.ListN.{length, drop, getD};
+ghost use lib.Seq.{sets};
+ghost use Rattle.loadlist.specs.Records.{recordIn, recordBytes};
 
 // The byte at a place, and 0 past the end.
 pub(crate) fn byte_at(list: &[u8], at: usize) -> u8
@@ -32,4 +33,32 @@ pub(crate) fn record_at(list: &[u8], k: usize) -> Record
     let first = field(byte_at(list, at + 4), byte_at(list, at + 5));
     let second = field(byte_at(list, at + 6), byte_at(list, at + 7));
     Record { op, first, second }
+}
+
+fn low(x: u16) -> u8
+    ensures { λ r. ⌜ r ≡ x % 256 ⌝ }
+{
+    (x % 256) as u8
+}
+
+fn high(x: u16) -> u8
+    ensures { λ r. ⌜ r ≡ x / 256 ⌝ }
+{
+    (x / 256) as u8
+}
+
+// Writes record k.
+pub fn put_record(list: &mut [u8], k: usize, r: Record)
+    requires { ⌜ 8 * k + 8 ≤ length (now list) ⌝ }
+    ensures { λ _. ⌜ now (list .exit) ≡ sets (now (list .entry)) (8 * k) (recordBytes r) ⌝ }
+{
+    let at = 8 * k;
+    list[at] = 0x47;
+    list[at + 1] = 0x53;
+    list[at + 2] = r.op;
+    list[at + 3] = 0;
+    list[at + 4] = low(r.first);
+    list[at + 5] = high(r.first);
+    list[at + 6] = low(r.second);
+    list[at + 7] = high(r.second);
 }
