@@ -2,7 +2,7 @@
 use mathlib.Core.Path.{_≡_, refl, ap, ap₂, sym, _∙_}
 use mathlib.Core.Bool.{Bool, true, false}
 use mathlib.Core.List.{List, [], _∷_}
-use Prim.Native.Nat.{ℕ, zero, suc, _+_, _*_, _<_, _≤_}
+use Prim.Native.Nat.{ℕ, _+_, _*_, _/_, _<_, _≤_}
 use native.Mathlib.Nat.{add-zero}
 use native.Mathlib.Omega.{arith}
 use lib.Dec.{eqb, leb}
@@ -10,6 +10,7 @@ use lib.ListN.{length, take, drop, getD, length-take, length-drop}
 use lib.Seq.{getD-drop}
 use borrow.Author.Tests.{lt-ltb, le-ltb, le-leb, lt-leb, leb-true, leb-false, eq-eqb, ne-eqb}
 use Rattle.ground.proofs.Bools.{bool-cases}
+use Rattle.ground.proofs.Rest.{rest-end}
 use Rattle.loadlist.specs.declared.Record.{Record}
 use Rattle.loadlist.specs.Records.{rec, recordIn}
 use Rattle.loadlist.specs.Check.{isWhole, marked, firstFits, secondFits, goodRecord}
@@ -27,6 +28,10 @@ whole-there s k = bool-cases (leb (8 * k + 8) (length s))
 -- the bytes of record k stand at 8 * k
 pub read-there : (s : List ℕ) (at : ℕ) → rec (getD s (at + 2) 0) (getD s (at + 4) 0 + 256 * getD s (at + 5) 0) (getD s (at + 6) 0 + 256 * getD s (at + 7) 0) ≡ recordIn (drop at s)
 read-there s at = simp getD-drop
+
+-- past the end a record of zeros is read
+pub read-past : (s : List ℕ) (k : ℕ) → length s / 8 < k → rec 0 0 0 ≡ recordIn (drop (8 * k) s)
+read-past s k h = let p : length s ≤ 8 * k = omega arith in rw (rest-end s (8 * k) p)
 
 -- the tests of a good record, in their order
 module _ (s : List ℕ) (k inputs outputs : ℕ) where

@@ -91,7 +91,7 @@ fn counted_with(op: u8, r: Record, n: usize) -> usize
 }
 
 // Records, a part of one counted.
-pub(crate) fn record_count(list: &[u8]) -> usize
+pub fn record_count(list: &[u8]) -> usize
     ensures { λ n. ⌜ n ≡ recordCount (now (list .entry)) ⌝ }
 {
     let n = list.len() / 8;

@@ -7,7 +7,7 @@ ghost use lib.Seq.{sets};
 ghost use Rattle.loadlist.specs.Records.{recordIn, recordBytes};
 
 // The byte at a place, and 0 past the end.
-pub(crate) fn byte_at(list: &[u8], at: usize) -> u8
+pub fn byte_at(list: &[u8], at: usize) -> u8
     ensures { λ r. ⌜ r ≡ getD (now (list .entry)) at 0 ⌝ }
 {
     if at < list.len() {
@@ -23,11 +23,13 @@ fn field(low: u8, high: u8) -> u16
     (low as u16) + 256 * (high as u16)
 }
 
-// Record k of the list; a field past the list's end is 0.
-pub(crate) fn record_at(list: &[u8], k: usize) -> Record
-    requires { ⌜ k ≤ 8192 ⌝ }
+// Record k of the list; a field past the list's end is 0. The test keeps 8 * k in range.
+pub fn record_at(list: &[u8], k: usize) -> Record
     ensures { λ r. ⌜ r ≡ recordIn (drop (8 * k) (now (list .entry))) ⌝ }
 {
+    if list.len() / 8 < k {
+        return Record { op: 0, first: 0, second: 0 };
+    }
     let at = 8 * k;
     let op = byte_at(list, at + 2);
     let first = field(byte_at(list, at + 4), byte_at(list, at + 5));
