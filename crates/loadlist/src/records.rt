@@ -28,7 +28,11 @@ pub fn record_at(list: &[u8], k: usize) -> Record
     ensures { λ r. ⌜ r ≡ recordIn (drop (8 * k) (now (list .entry))) ⌝ }
 {
     if list.len() / 8 < k {
-        return Record { op: 0, first: 0, second: 0 };
+        return Record {
+            op: 0,
+            first: 0,
+            second: 0,
+        };
     }
     let at = 8 * k;
     let op = byte_at(list, at + 2);
