@@ -2,8 +2,10 @@
 use mathlib.Core.Path.{_≡_, refl, ap, sym, _∙_}
 use mathlib.Core.List.{List, [], _++_, append-nil}
 use Prim.Native.Nat.{ℕ, _+_, _-_, _<_, _≤_}
+use native.Mathlib.Nat.{zero-add}
 use native.Mathlib.Omega.{arith}
 use lib.ListN.{length, take, drop, set, length-take}
+use lib.Seq.{sets, sets-eq}
 use borrow.Author.Fill.{fill-more}
 use Rattle.ground.specs.Regions.{zeros, pad, over}
 use Rattle.ground.proofs.Rest.{rest-end}
@@ -34,3 +36,10 @@ over-front n new old =
 pub over-zeros : (n : ℕ) (xs : List ℕ) → over (length xs) xs (zeros n) ≡ pad n xs
 unfolding over pad
 over-zeros n xs = ap (λ (l : List ℕ). xs ++ l) (drop-zeros (length xs) n)
+
+-- words stored from the front on
+pub sets-front : (old xs : List ℕ) → length xs ≤ length old → sets old 0 xs ≡ over (length xs) xs old
+unfolding over
+sets-front old xs h =
+    let l : 0 + length xs ≤ length old = omega arith in
+    sets-eq xs old 0 l ∙ ap (λ (n : ℕ). xs ++ drop n old) (zero-add (length xs))
