@@ -7,6 +7,8 @@ use Prim.Native.Nat.{ℕ, zero, suc, _+_, _*_, _≤_}
 use native.Mathlib.Omega.{arith}
 use lib.ListN.{length, drop}
 use Rattle.ground.proofs.Bools.{bool-cases}
+use Rattle.ground.proofs.Outcome.{any-two}
+use Rattle.loadlist.specs.declared.Listed.{Listed}
 use Rattle.loadlist.specs.declared.Listed.the-variants.{Good, Bad}
 use Rattle.loadlist.specs.Records.{recordIn, recordsIn, inputOp, outputOp}
 use Rattle.loadlist.specs.Check.{goodRecord, badRecordFrom, badRecord, counted, recordCount, recordsWith, records, listedFrom, listedOf}
@@ -53,3 +55,7 @@ bad-list s k e = go (badRecord s) refl e
     go : (b : Option ℕ) → badRecord s ≡ b → Bad k ≡ listedFrom s b → badRecord s ≡ some k
     go none p q = let z : _≡_ {A = ℕ} 0 1 = cc in absurd (omega arith)
     go (some j) p q = cc
+
+-- the check's contract allows one answer
+pub one-answer : (s : List ℕ) (a b : Listed) → a ≡ listedOf s → b ≡ listedOf s → a ≡ b
+one-answer s a b = any-two listedOf s a b

@@ -15,6 +15,7 @@ use Rattle.ground.specs.Refusals.{at, refusal}
 use Rattle.ground.specs.Regions.{zeros, pad, over}
 use Rattle.ground.proofs.Bools.{bool-cases}
 use Rattle.ground.proofs.Lent.{over-all, over-front, over-zeros, sets-front}
+use Rattle.ground.proofs.Outcome.{any-two}
 use Rattle.ground.proofs.Regions.{length-zeros, length-pad}
 use Rattle.loadlist.specs.declared.Record.{Record}
 use Rattle.loadlist.specs.declared.Ran.{Ran}
@@ -138,3 +139,7 @@ module _ (list ins outs work : List ℕ) where
       → made r outs′ (work′ ++ drop 8192 work) ≡ runOf list ins outs work
   unfolding runOf
   whole-way r outs′ work′ h e = rw (le-ltb (length work) 8192 h) (ap behind e ∙ fronted (badRecord list))
+
+  -- the run's contract allows one outcome
+  pub one-outcome : (o p : Outcome) → o ≡ runOf list ins outs work → p ≡ runOf list ins outs work → o ≡ p
+  one-outcome o p = any-two (λ (l : List ℕ). runOf l ins outs work) list o p

@@ -23,7 +23,7 @@ pub(crate) fn all_trits(bits: &[u8]) -> bool
 pub(crate) fn clear(work: &mut [u8])
     ensures { λ _. ⌜ now (work .exit) ≡ zeros (length (now (work .entry))) ⌝ }
 {
-    let mut i = 0;
+    let mut i: usize = 0;
     while i < work.len() {
         work[i] = 0;
         i += 1;
