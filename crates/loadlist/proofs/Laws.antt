@@ -1,7 +1,7 @@
 -- Laws of the definitions at a record of the list: what the code's returns and loops go by.
-use mathlib.Core.Path.{_≡_, refl, ap, ap₂, sym, _∙_}
-use mathlib.Core.Bool.{Bool, true, false}
-use mathlib.Core.List.{List, [], _∷_}
+use mathlib.Core.Path.{_≡_, sym, _∙_}
+use mathlib.Core.Bool.{true, false}
+use mathlib.Core.List.{List}
 use Prim.Native.Nat.{ℕ, _+_, _*_, _/_, _<_, _≤_}
 use native.Mathlib.Nat.{add-zero}
 use native.Mathlib.Omega.{arith}
@@ -11,7 +11,6 @@ use lib.Seq.{getD-drop}
 use borrow.Author.Tests.{lt-ltb, le-ltb, le-leb, lt-leb, leb-true, leb-false, eq-eqb, ne-eqb}
 use Rattle.ground.proofs.Bools.{bool-cases}
 use Rattle.ground.proofs.Rest.{rest-end}
-use Rattle.loadlist.specs.declared.Record.{Record}
 use Rattle.loadlist.specs.Records.{rec, recordIn}
 use Rattle.loadlist.specs.Check.{isWhole, marked, firstFits, secondFits, goodRecord}
 

@@ -1,13 +1,14 @@
 -- What is written as a record is read back as that record.
-use mathlib.Core.Path.{_≡_, refl, ap, sym, _∙_}
+use mathlib.Core.Path.{_≡_, refl, ap, _∙_}
 use mathlib.Core.List.{List, [], _∷_, _++_, append-assoc}
-use Prim.Native.Nat.{ℕ, zero, suc, _+_, _*_, _/_, _%_, _≤_}
+use Prim.Native.Nat.{ℕ, suc, _+_, _*_, _/_, _%_, _≤_}
 use native.Mathlib.Omega.{arith}
 use lib.ListN.{length, take, drop, set}
 use lib.Seq.{sets, sets-eq, drop-at, length-take-le}
 use Rattle.ground.specs.Lists.{joined}
 use Rattle.loadlist.specs.declared.Record.{Record}
-use Rattle.loadlist.specs.Records.{rec, recordIn, recordsIn, recordBytes, listBytes}
+use Rattle.loadlist.specs.Records.{recordIn, recordsIn, recordBytes, listBytes}
+use Rattle.loadlist.specs.Check.{recordCount, records}
 
 -- eight stores, one behind the other
 pub eight : (l : List ℕ) (at a b c d e f g h : ℕ)
@@ -37,7 +38,19 @@ put-back s k r h =
     ∙ read-back r (drop (8 * k + 8) s)
 
 -- and of a list of records
-pub list-back : (rs : List Record) → recordsIn (length rs) (listBytes rs) ≡ rs
+list-back : (rs : List Record) → recordsIn (length rs) (listBytes rs) ≡ rs
 unfolding recordsIn joined
 list-back [] = refl
 list-back (r ∷ rs) = rw (halves (r .first), halves (r .second)) (ap (λ (l : List Record). r ∷ l) (list-back rs))
+
+list-long : (rs : List Record) → length (listBytes rs) ≡ 8 * length rs
+unfolding joined
+list-long [] = omega arith
+list-long (r ∷ rs) = let l = list-long rs in omega arith
+
+-- a list of records is the records of its bytes
+pub records-back : (rs : List Record) → records (listBytes rs) ≡ rs
+records-back rs =
+    let l = list-long rs in
+    let e : recordCount (listBytes rs) ≡ length rs = omega arith in
+    ap (λ (n : ℕ). recordsIn n (listBytes rs)) e ∙ list-back rs

@@ -1,5 +1,6 @@
-// The load list: its records, its check and its run. It promises that a list is refused or run as the definitions of specs/ say,
-// every slot, output and lent byte included. Trits stand below it; cells, translation and the programs above.
+// The load list: its records and its check, and, in specs/Run, what a run of it is. It promises that any record of any list is read,
+// that a record is read back as it was written, and the first bad record of every list. Trits stand below it; the run, cells and
+// translation above.
 pub mod check;
 pub mod records;
 

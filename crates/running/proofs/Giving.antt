@@ -1,8 +1,7 @@
 -- Laws of the outputs: the walk that gives them, and their number.
 use mathlib.Core.Path.{_≡_, refl, ap, ap₂, sym, _∙_}
-use mathlib.Core.Bool.{Bool, true, false}
 use mathlib.Core.List.{List, [], _∷_, _++_}
-use Prim.Native.Nat.{ℕ, zero, suc, _+_, _*_, _-_, _<_, _≤_}
+use Prim.Native.Nat.{ℕ, _+_, _*_, _-_, _<_, _≤_}
 use native.Mathlib.Omega.{arith}
 use lib.Dec.{eqb}
 use lib.ListN.{length, drop, getD, length-append}
@@ -48,32 +47,37 @@ pub record Gave (list work : List ℕ) (n : ℕ) (old : List ℕ) (k at : ℕ) (
   pub room : at + length (outputsLeft list work n k) ≤ length old
   pub long : length outs ≡ length old
 
-module _ (list work : List ℕ) (n : ℕ) (old : List ℕ) where
-  pub gave-none : length (outputsIn (recordsIn n list) work) ≤ length old → Gave list work n old 0 0 old
-  gave-none h = let e : n - 0 ≡ n = omega arith in record { left = rw e; room = rw e (omega arith); long = refl }
+pub gave-none : (list work : List ℕ) (n : ℕ) (old : List ℕ) → length (outputsIn (recordsIn n list) work) ≤ length old → Gave list work n old 0 0 old
+gave-none list work n old h = let e : n - 0 ≡ n = omega arith in record { left = rw e; room = rw e (omega arith); long = refl }
 
-  module _ (k at : ℕ) (outs : List ℕ) (g : Gave list work n old k at outs) where
-    pub gave-room : (r : Record) → k < n → k < length work → r ≡ recordIn (drop (8 * k) list) → at + length (given r (getD work k 0)) ≤ length outs
-    gave-room r more w e =
-        let h : at + length (giving list work k ++ outputsLeft list work n (k + 1)) ≤ length old = rw (outputs-more list work n k more w) at (g .room) in
-        let j = rw length-append at h in
-        rw (e, g .long) (omega arith)
+module _ {list work old outs : List ℕ} {n k at : ℕ} (g : Gave list work n old k at outs) where
+  module _ (r : Record) (more : k < n) (made : k < length work) (e : r ≡ recordIn (drop (8 * k) list)) where
+    room-left : at + length (giving list work k) + length (outputsLeft list work n (k + 1)) ≤ length old
+    room-left =
+        let h : at + length (giving list work k ++ outputsLeft list work n (k + 1)) ≤ length old = rw (outputs-more list work n k more made) at (g .room) in
+        let l = rw length-append at h in
+        omega arith
 
-    pub gave-more : (r : Record) (next : ℕ) (new : List ℕ) → k < n → k < length work → r ≡ recordIn (drop (8 * k) list) → Put outs at (given r (getD work k 0)) next new → Gave list work n old (k + 1) next new
-    gave-more r next new more w e p =
-        let h : at + length (giving list work k ++ outputsLeft list work n (k + 1)) ≤ length old = rw (outputs-more list work n k more w) at (g .room) in
-        let j = rw length-append at h in
+    pub gave-room : at + length (given r (getD work k 0)) ≤ length outs
+    gave-room = let l = room-left in rw (e, g .long) (omega arith)
+
+    pub gave-more : {next : ℕ} {new : List ℕ} → Put outs at (given r (getD work k 0)) next new → Gave list work n old (k + 1) next new
+    gave-more {next} {new} p =
+        let l = room-left in
         let m : next ≡ at + length (giving list work k) = rw e at (p .next) in
         let q : new ≡ sets outs at (giving list work k) = rw e at (p .holds) in
         record {
-          left = ap₂ (λ x i. sets x i (outputsLeft list work n (k + 1))) q m ∙ sym (sets-append outs at (giving list work k) (outputsLeft list work n (k + 1))) ∙ (rw (outputs-more list work n k more w) at (g .left));
+          left =
+              ap₂ (λ x i. sets x i (outputsLeft list work n (k + 1))) q m
+              ∙ sym (sets-append outs at (giving list work k) (outputsLeft list work n (k + 1)))
+              ∙ (rw (outputs-more list work n k more made) at (g .left));
           room = rw m (omega arith);
           long = put-length p ∙ g .long;
         }
 
-    pub gave-all : k ≡ n → outs ≡ sets old 0 (outputsIn (recordsIn n list) work)
-    unfolding outputsIn recordsIn
-    gave-all e = let z : n - k ≡ 0 = omega arith in rw z at (g .left)
+  pub gave-all : k ≡ n → outs ≡ sets old 0 (outputsIn (recordsIn n list) work)
+  unfolding outputsIn recordsIn
+  gave-all e = let z : n - k ≡ 0 = omega arith in rw z at (g .left)
 
 -- work space past the slots gives nothing
 pub outputs-front : (rs : List Record) (slots t : List ℕ) → length slots ≡ length rs → outputsIn rs (slots ++ t) ≡ outputsIn rs slots

@@ -2,12 +2,12 @@
 use mathlib.Core.Path.{_≡_, refl, ap, ap₂, sym, _∙_}
 use mathlib.Core.Bool.{Bool, true, false}
 use mathlib.Core.List.{List, [], _∷_, _++_}
-use Prim.Native.Nat.{ℕ, suc, _+_, _*_, _-_, _<_, _≤_}
+use Prim.Native.Nat.{ℕ, _+_, _*_, _-_, _<_, _≤_}
 use native.Mathlib.Omega.{arith}
 use native.Mathlib.Numerals.{add-one}
 use lib.Dec.{ltb}
 use lib.ListN.{length, take, drop, getD, set, length-set, length-take, take-append-drop, List·getD-eq-default}
-use lib.Seq.{getD-take, take-suc-set, drop-set-lt, drop-drop, drop-length}
+use lib.Seq.{getD-take, take-suc-set, drop-set-lt, drop-drop}
 use borrow.Author.Tests.{lt-ltb, le-ltb}
 use Rattle.ground.specs.Lists.{every}
 use Rattle.ground.specs.Regions.{over}
@@ -49,16 +49,17 @@ pub record Made (list ins : List ℕ) (n : ℕ) (old : List ℕ) (k : ℕ) (work
   pub stays : drop k work ≡ drop k old
   pub long : length work ≡ length old
 
-module _ (list ins : List ℕ) (n : ℕ) (old : List ℕ) where
-  pub made-none : Made list ins n old 0 old
-  made-none = let e : n - 0 ≡ n = omega arith in record { left = rw e; stays = refl; long = refl }
+pub made-none : (list ins : List ℕ) (n : ℕ) (old : List ℕ) → Made list ins n old 0 old
+made-none list ins n old = let e : n - 0 ≡ n = omega arith in record { left = rw e; stays = refl; long = refl }
 
-  pub made-more : (k : ℕ) (work : List ℕ) (r : Record) (x : ℕ) → Made list ins n old k work → k < n → k < length work → r ≡ recordIn (drop (8 * k) list)
-      → x ≡ slotOf r ins (take k work) → Made list ins n old (k + 1) (set work k x)
+module _ {list ins old work : List ℕ} {n k : ℕ} (m : Made list ins n old k work) where
+  pub made-more : {r : Record} {x : ℕ} → k < n → k < length work → r ≡ recordIn (drop (8 * k) list) → x ≡ slotOf r ins (take k work)
+      → Made list ins n old (k + 1) (set work k x)
   unfolding slotsFrom
-  made-more k work r x m more room er ex =
+  made-more {r} {x} more room er ex =
       let front : take (k + 1) (set work k x) ≡ take k work ++ (x ∷ []) = rw add-one (take-suc-set work k x room) in
-      let left : slotsFrom (recordIn (drop (8 * k) list) ∷ recordsIn (n - (k + 1)) (drop (8 * (k + 1)) list)) ins (take k work) ≡ slotsFrom (recordsIn n list) ins [] = rw (records-more list n k more) at (m .left) in
+      let left : slotsFrom (recordIn (drop (8 * k) list) ∷ recordsIn (n - (k + 1)) (drop (8 * (k + 1)) list)) ins (take k work)
+      ≡ slotsFrom (recordsIn n list) ins [] = rw (records-more list n k more) at (m .left) in
       let tail : drop (k + 1) work ≡ drop (k + 1) old = sym (drop-drop 1 k work) ∙ ap (λ (l : List ℕ). drop 1 l) (m .stays) ∙ drop-drop 1 k old in
       record {
         left = rw (front, ex, er) left;
@@ -66,9 +67,9 @@ module _ (list ins : List ℕ) (n : ℕ) (old : List ℕ) where
         long = length-set work k x ∙ m .long;
       }
 
-  pub made-all : (k : ℕ) (work : List ℕ) → Made list ins n old k work → k ≡ n → work ≡ over n (slotsFrom (recordsIn n list) ins []) old
+  pub made-all : k ≡ n → work ≡ over n (slotsFrom (recordsIn n list) ins []) old
   unfolding over slotsFrom recordsIn
-  made-all k work m e =
+  made-all e =
       let z : n - k ≡ 0 = omega arith in
       let front : take k work ≡ slotsFrom (recordsIn n list) ins [] = rw z at (m .left) in
       sym (take-append-drop k work) ∙ ap₂ (λ a b. a ++ b) front (m .stays ∙ ap (λ (j : ℕ). drop j old) e)

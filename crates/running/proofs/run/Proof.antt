@@ -1,47 +1,38 @@
-use Rattle.running.proofs.Ways.{short, whole-way}
 use borrow.Author.Needs.{needs}
+use Rattle.running.proofs.Ways.{short, whole-way}
 use Rattle.running.proofs.run.Statement.{statement}
 use Rattle.running.proofs.run.Tie as tie
-use Rattle.running.proofs.run.Reads as reads
-use Rattle.running.proofs.run.Lts as lts
-use Rattle.running.proofs.refused.Reads as refused-reads
-use Rattle.running.proofs.run_in.Reads as run-in-reads
 
--- src/lib.rt:72:9
 refused-requires : tie.Need-refused-requires
 refused-requires c κs = search needs
 
--- src/lib.rt:72:9
 returns : tie.Need-returns
-returns c = let a = c .before .before .before .before .before .before .args in rw (c .refused .ensures) (short (a .list .now) (a .ins .now) (a .outs .now) (a .work .now) (c .before .if1 .taken))
+returns c =
+    let a = c .before .before .before .before .before .before .args in
+    rw (c .refused .ensures) (short (a .list .now) (a .ins .now) (a .outs .now) (a .work .now) (c .before .if1 .taken))
 
--- src/lib.rt:74:29
 sub-run-in : tie.Need-sub-run-in
 sub-run-in c = search needs
 
--- src/lib.rt:74:29
 part-run-in-start : tie.Need-part-run-in-start
 part-run-in-start c = search needs
 
--- src/lib.rt:74:29
 part-run-in-end : tie.Need-part-run-in-end
 part-run-in-end c = search needs
 
--- src/lib.rt:74:5
 run-in-requires : tie.Need-run-in-requires
 run-in-requires c κs = search needs
 
--- src/lib.rt:68:1
 same-length : tie.Need-same-length
 same-length c = search needs
 
--- src/lib.rt:68:1
 same-length-2 : tie.Need-same-length-2
 same-length-2 c = search needs
 
--- src/lib.rt:68:1
 returns-2 : tie.Need-returns-2
-returns-2 c = let a = c .before .before .before .before .before .before .before .before .before .before .before .before .args in whole-way (a .list .now) (a .ins .now) (a .outs .now) (a .work .now) _ _ _ (c .before .before .before .before .before .before .before .if1 .left) (c .before .before .before .before .run-in .ensures)
+returns-2 c =
+    let a = c .before .before .before .before .before .before .before .before .before .before .before .before .args in
+    whole-way (a .list .now) (a .ins .now) (a .outs .now) (a .work .now) (c .before .before .before .before .before .before .before .if1 .left) (c .before .before .before .before .run-in .ensures)
 
 pub run-spec : {M : Type 1} → statement M
 run-spec =

@@ -1,16 +1,10 @@
-use Rattle.loadlist.proofs.Walk.{Passed, passed-none, passed-more, listed-bad, listed-good, good-early}
-use native.Mathlib.Omega.{arith}
+use mathlib.Core.Path.{sym, _∙_}
 use Prim.Native.Nat.{_≤_, _-_}
-use mathlib.Core.Path.{_≡_, sym, _∙_}
+use native.Mathlib.Omega.{arith}
 use borrow.Author.Needs.{needs}
+use Rattle.loadlist.proofs.Walk.{Passed, passed-none, passed-more, listed-bad, listed-good, good-early}
 use Rattle.loadlist.proofs.check.check.Statement.{statement}
 use Rattle.loadlist.proofs.check.check.Tie as tie
-use Rattle.loadlist.proofs.check.check.Reads as reads
-use Rattle.loadlist.proofs.check.check.Lts as lts
-use Rattle.loadlist.proofs.check.counted_with.Reads as counted-with-reads
-use Rattle.loadlist.proofs.check.good_record.Reads as good-record-reads
-use Rattle.loadlist.proofs.check.record_count.Reads as record-count-reads
-use Rattle.loadlist.proofs.records.record_at.Reads as record-at-reads
 
 abbrev Inv-loop : tie.InvT-loop
 Inv-loop list n k₀ inputs₀ outputs₀ k inputs outputs = (k ≤ 8192) × (k ≤ n) × (inputs ≤ k) × (outputs ≤ k) × Passed list n k inputs outputs
@@ -18,41 +12,33 @@ Inv-loop list n k₀ inputs₀ outputs₀ k inputs outputs = (k ≤ 8192) × (k 
 abbrev μ-loop : tie.MeasureT-loop
 μ-loop list n k₀ inputs₀ outputs₀ k inputs outputs = n - k
 
--- src/check.rt:108:9
 record-count-requires : tie.Need-record-count-requires Inv-loop μ-loop
 record-count-requires c κs = search needs
 
--- src/check.rt:112:5
 loop-holds : tie.Need-loop-holds Inv-loop μ-loop
 loop-holds c = (search needs, search needs, search needs, search needs, passed-none _ _ (c .record-count .ensures))
 
--- src/check.rt:113:12
 good-record-requires : tie.Need-good-record-requires Inv-loop μ-loop
 good-record-requires c κs = search needs
 
--- src/check.rt:114:17
 record-at-requires : tie.Need-record-at-requires Inv-loop μ-loop
 record-at-requires c κs = search needs
 
--- src/check.rt:115:13
 counted-with-requires : tie.Need-counted-with-requires Inv-loop μ-loop
 counted-with-requires c κs = search needs
 
--- src/check.rt:116:13
 counted-with-requires-2 : tie.Need-counted-with-requires-2 Inv-loop μ-loop
 counted-with-requires-2 c κs = search needs
 
--- src/check.rt:117:13
 add-k : tie.Need-add-k Inv-loop μ-loop
 add-k c = search needs
 
--- src/check.rt:112:5
 loop-less : tie.Need-loop-less Inv-loop μ-loop
 loop-less c = search needs
 
--- src/check.rt:112:5
 loop-again : tie.Need-loop-again Inv-loop μ-loop
-loop-again c = let l = c .before .before .before .before .before .before in
+loop-again c =
+    let l = c .before .before .before .before .before .before in
     let good = sym (c .before .before .before .before .good-record .ensures) ∙ c .before .before .before .if1 .taken in
     let early = good-early _ _ _ _ good in (
       omega arith,
@@ -62,15 +48,12 @@ loop-again c = let l = c .before .before .before .before .before .before in
       passed-more _ _ (l .loop .inv .4) (c .before .before .before .before .before .loop-test .taken) (c .before .before .record-at .ensures) good (c .before .counted-with .ensures .0) (c .counted-with2 .ensures .0),
     )
 
--- src/check.rt:119:32
 mul-t9 : tie.Need-mul-t9 Inv-loop μ-loop
 mul-t9 c = search needs
 
--- src/check.rt:119:13
 returns : tie.Need-returns Inv-loop μ-loop
 returns c = listed-bad (c .before .before .before .loop .inv .4) (c .before .before .loop-test .taken) (sym (c .before .good-record .ensures) ∙ c .if1 .left)
 
--- src/check.rt:105:1
 returns-2 : tie.Need-returns-2 Inv-loop μ-loop
 returns-2 c = listed-good (c .before .loop .inv .4) (omega arith)
 

@@ -1,49 +1,42 @@
-use lib.Dec.{eqb}
-use mathlib.Core.Path.{_∙_, sym, ap}
+use mathlib.Core.Path.{_∙_, sym}
 use Prim.Native.Nat.{_*_}
-use Rattle.loadlist.proofs.Laws.{mark-first, mark-second, mark-zero}
 use borrow.Author.Needs.{needs}
+use Rattle.loadlist.proofs.Laws.{mark-first, mark-second, mark-zero}
 use Rattle.loadlist.proofs.check.marked_at.Statement.{statement}
 use Rattle.loadlist.proofs.check.marked_at.Tie as tie
-use Rattle.loadlist.proofs.check.marked_at.Reads as reads
-use Rattle.loadlist.proofs.check.marked_at.Lts as lts
-use Rattle.loadlist.proofs.records.byte_at.Reads as byte-at-reads
 
--- src/check.rt:18:14
 mul-at : tie.Need-mul-at
 mul-at c = search needs
 
--- src/check.rt:19:8
 byte-at-requires : tie.Need-byte-at-requires
 byte-at-requires c κs = search needs
 
--- src/check.rt:20:9
 returns : tie.Need-returns
-returns c = let s = c .before .before .before in mark-first (s .args .list .now) (8 * s .args .k) (λ q. c .if1 .taken (c .before .byte-at .ensures ∙ q))
+returns c =
+    let s = c .before .before .before in
+    mark-first (s .args .list .now) (8 * s .args .k) (λ q. c .if1 .taken (c .before .byte-at .ensures ∙ q))
 
--- src/check.rt:22:22
 add-byte-at : tie.Need-add-byte-at
 add-byte-at c = search needs
 
--- src/check.rt:22:8
 byte-at-requires-2 : tie.Need-byte-at-requires-2
 byte-at-requires-2 c κs = search needs
 
--- src/check.rt:23:9
 returns-2 : tie.Need-returns-2
-returns-2 c = let s = c .before .before .before .before .before in mark-second (s .args .list .now) (8 * s .args .k) (sym (c .before .before .before .byte-at .ensures) ∙ c .before .before .if1 .left) (λ q. c .if2 .taken (c .before .byte-at2 .ensures ∙ q))
+returns-2 c =
+    let s = c .before .before .before .before .before in
+    mark-second (s .args .list .now) (8 * s .args .k) (sym (c .before .before .before .byte-at .ensures) ∙ c .before .before .if1 .left) (λ q. c .if2 .taken (c .before .byte-at2 .ensures ∙ q))
 
--- src/check.rt:25:19
 add-byte-at-2 : tie.Need-add-byte-at-2
 add-byte-at-2 c = search needs
 
--- src/check.rt:25:5
 byte-at-requires-3 : tie.Need-byte-at-requires-3
 byte-at-requires-3 c κs = search needs
 
--- src/check.rt:14:1
 returns-3 : tie.Need-returns-3
-returns-3 c = let s = c .before .before .before .before .before .before in rw (c .byte-at3 .ensures) (mark-zero (s .args .list .now) (8 * s .args .k) (sym (c .before .before .before .before .byte-at .ensures) ∙ c .before .before .before .if1 .left) (sym (c .before .before .byte-at2 .ensures) ∙ c .before .if2 .left))
+returns-3 c =
+    let s = c .before .before .before .before .before .before in
+    rw (c .byte-at3 .ensures) (mark-zero (s .args .list .now) (8 * s .args .k) (sym (c .before .before .before .before .byte-at .ensures) ∙ c .before .before .before .if1 .left) (sym (c .before .before .byte-at2 .ensures) ∙ c .before .if2 .left))
 
 pub marked-at-spec : {M : Type 1} → statement M
 marked-at-spec =

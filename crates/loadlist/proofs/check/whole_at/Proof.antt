@@ -1,19 +1,14 @@
-use Rattle.loadlist.proofs.Laws.{whole-there}
 use borrow.Author.Needs.{needs}
+use Rattle.loadlist.proofs.Laws.{whole-there}
 use Rattle.loadlist.proofs.check.whole_at.Statement.{statement}
 use Rattle.loadlist.proofs.check.whole_at.Tie as tie
-use Rattle.loadlist.proofs.check.whole_at.Reads as reads
-use Rattle.loadlist.proofs.check.whole_at.Lts as lts
 
--- src/check.rt:33:5
 mul-result : tie.Need-mul-result
 mul-result c = search needs
 
--- src/check.rt:33:5
 add-result : tie.Need-add-result
 add-result c = search needs
 
--- src/check.rt:29:1
 returns : tie.Need-returns
 returns c = whole-there (c .args .list .now) (c .args .k)
 

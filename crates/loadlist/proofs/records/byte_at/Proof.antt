@@ -1,20 +1,15 @@
-use lib.ListN.{List·getD-eq-default}
 use mathlib.Core.Path.{sym}
+use lib.ListN.{List·getD-eq-default}
 use borrow.Author.Needs.{needs}
 use Rattle.loadlist.proofs.records.byte_at.Statement.{statement}
 use Rattle.loadlist.proofs.records.byte_at.Tie as tie
-use Rattle.loadlist.proofs.records.byte_at.Reads as reads
-use Rattle.loadlist.proofs.records.byte_at.Lts as lts
 
--- src/records.rt:13:16
 shared-slice-read-result : tie.Need-shared-slice-read-result
 shared-slice-read-result c = search needs
 
--- src/records.rt:13:9
 returns : tie.Need-returns
 returns c = search needs
 
--- src/records.rt:9:1
 returns-2 : tie.Need-returns-2
 returns-2 c = sym (List·getD-eq-default (c .before .args .list .now) 0 (c .if1 .left))
 

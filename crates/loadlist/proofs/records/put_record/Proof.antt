@@ -1,102 +1,78 @@
 use Prim.Native.Nat.{_*_, _/_, _%_}
-use Rattle.loadlist.proofs.Written.{eight}
 use native.Mathlib.Omega.{arith}
 use lib.ListN.{length-set}
 use borrow.Author.Needs.{needs}
+use Rattle.loadlist.proofs.Written.{eight}
 use Rattle.loadlist.proofs.records.put_record.Statement.{statement}
 use Rattle.loadlist.proofs.records.put_record.Tie as tie
-use Rattle.loadlist.proofs.records.put_record.Reads as reads
-use Rattle.loadlist.proofs.records.put_record.Lts as lts
-use Rattle.loadlist.proofs.records.high.Reads as high-reads
-use Rattle.loadlist.proofs.records.low.Reads as low-reads
 
--- src/records.rt:55:14
 mul-at : tie.Need-mul-at
 mul-at c = search needs
 
--- src/records.rt:56:5
 slice-write-list : tie.Need-slice-write-list
 slice-write-list c = search needs
 
--- src/records.rt:57:10
 add-list : tie.Need-add-list
 add-list c = search needs
 
--- src/records.rt:57:5
 slice-write-list-2 : tie.Need-slice-write-list-2
 slice-write-list-2 c = simp length-set (omega arith)
 
--- src/records.rt:58:10
 add-list-2 : tie.Need-add-list-2
 add-list-2 c = search needs
 
--- src/records.rt:58:5
 slice-write-list-3 : tie.Need-slice-write-list-3
 slice-write-list-3 c = simp length-set (omega arith)
 
--- src/records.rt:59:10
 add-list-3 : tie.Need-add-list-3
 add-list-3 c = search needs
 
--- src/records.rt:59:5
 slice-write-list-4 : tie.Need-slice-write-list-4
 slice-write-list-4 c = simp length-set (omega arith)
 
--- src/records.rt:60:20
 low-requires : tie.Need-low-requires
 low-requires c κs = search needs
 
--- src/records.rt:60:10
 add-list-4 : tie.Need-add-list-4
 add-list-4 c = search needs
 
--- src/records.rt:60:5
 slice-write-list-5 : tie.Need-slice-write-list-5
 slice-write-list-5 c = simp length-set (omega arith)
 
--- src/records.rt:61:20
 high-requires : tie.Need-high-requires
 high-requires c κs = search needs
 
--- src/records.rt:61:10
 add-list-5 : tie.Need-add-list-5
 add-list-5 c = search needs
 
--- src/records.rt:61:5
 slice-write-list-6 : tie.Need-slice-write-list-6
 slice-write-list-6 c = simp length-set (omega arith)
 
--- src/records.rt:62:20
 low-requires-2 : tie.Need-low-requires-2
 low-requires-2 c κs = search needs
 
--- src/records.rt:62:10
 add-list-6 : tie.Need-add-list-6
 add-list-6 c = search needs
 
--- src/records.rt:62:5
 slice-write-list-7 : tie.Need-slice-write-list-7
 slice-write-list-7 c = simp length-set (omega arith)
 
--- src/records.rt:63:20
 high-requires-2 : tie.Need-high-requires-2
 high-requires-2 c κs = search needs
 
--- src/records.rt:63:10
 add-list-7 : tie.Need-add-list-7
 add-list-7 c = search needs
 
--- src/records.rt:63:5
 slice-write-list-8 : tie.Need-slice-write-list-8
 slice-write-list-8 c = simp length-set (omega arith)
 
--- src/records.rt:51:1
 same-length : tie.Need-same-length
 same-length c = search needs
 
--- src/records.rt:51:1
 returns : tie.Need-returns
-returns c = let s = c .before .before .before .before .before .args in rw (c .before .before .before .low .ensures, c .before .before .high .ensures, c .before .low2 .ensures, c .high2 .ensures) (eight (s .list .now) (8 * s .k) 0x47 0x53 (s .r .op) 0 (s .r .first % 256) (s .r .first / 256) (s .r .second % 256) (s .r .second / 256))
+returns c =
+    let s = c .before .before .before .before .before .args in
+    rw (c .before .before .before .low .ensures, c .before .before .high .ensures, c .before .low2 .ensures, c .high2 .ensures) (eight (s .list .now) (8 * s .k) 0x47 0x53 (s .r .op) 0 (s .r .first % 256) (s .r .first / 256) (s .r .second % 256) (s .r .second / 256))
 
 pub put-record-spec : {M : Type 1} → statement M
 put-record-spec =

@@ -1,70 +1,51 @@
 use Prim.Native.Nat.{_*_}
-use Rattle.loadlist.proofs.Laws.{read-there, read-past}
 use borrow.Author.Needs.{needs}
+use Rattle.loadlist.proofs.Laws.{read-there, read-past}
 use Rattle.loadlist.proofs.records.record_at.Statement.{statement}
 use Rattle.loadlist.proofs.records.record_at.Tie as tie
-use Rattle.loadlist.proofs.records.record_at.Reads as reads
-use Rattle.loadlist.proofs.records.record_at.Lts as lts
-use Rattle.loadlist.proofs.records.byte_at.Reads as byte-at-reads
-use Rattle.loadlist.proofs.records.field.Reads as field-reads
 
--- src/records.rt:31:9
 returns : tie.Need-returns
 returns c = let s = c .before .before .args in read-past (s .list .now) (s .k) (c .if1 .taken)
 
--- src/records.rt:33:14
 mul-at : tie.Need-mul-at
 mul-at c = search needs
 
--- src/records.rt:34:28
 add-byte-at : tie.Need-add-byte-at
 add-byte-at c = search needs
 
--- src/records.rt:34:9
 byte-at-requires : tie.Need-byte-at-requires
 byte-at-requires c κs = search needs
 
--- src/records.rt:35:37
 add-byte-at-2 : tie.Need-add-byte-at-2
 add-byte-at-2 c = search needs
 
--- src/records.rt:35:23
 byte-at-requires-2 : tie.Need-byte-at-requires-2
 byte-at-requires-2 c κs = search needs
 
--- src/records.rt:35:60
 add-byte-at-3 : tie.Need-add-byte-at-3
 add-byte-at-3 c = search needs
 
--- src/records.rt:35:46
 byte-at-requires-3 : tie.Need-byte-at-requires-3
 byte-at-requires-3 c κs = search needs
 
--- src/records.rt:35:9
 field-requires : tie.Need-field-requires
 field-requires c κs = search needs
 
--- src/records.rt:36:38
 add-byte-at-4 : tie.Need-add-byte-at-4
 add-byte-at-4 c = search needs
 
--- src/records.rt:36:24
 byte-at-requires-4 : tie.Need-byte-at-requires-4
 byte-at-requires-4 c κs = search needs
 
--- src/records.rt:36:61
 add-byte-at-5 : tie.Need-add-byte-at-5
 add-byte-at-5 c = search needs
 
--- src/records.rt:36:47
 byte-at-requires-5 : tie.Need-byte-at-requires-5
 byte-at-requires-5 c κs = search needs
 
--- src/records.rt:36:9
 field-requires-2 : tie.Need-field-requires-2
 field-requires-2 c κs = search needs
 
--- src/records.rt:27:1
 returns-2 : tie.Need-returns-2
 returns-2 c = let s = c .before .before .before .before .before .before .before .before .before .args in cc (read-there (s .list .now) (8 * s .k))
 

@@ -1,14 +1,12 @@
+use mathlib.Core.Path.{_≡_, refl, _∙_, ap}
+use Prim.Native.Nat.{_≤_, _-_}
+use native.Mathlib.Omega.{arith}
+use lib.ListN.{length, length-set}
+use borrow.Author.Needs.{needs}
 use Rattle.ground.proofs.Lent.{zero-none, zero-more, over-all}
 use Rattle.ground.specs.Regions.{zeros, over}
-use lib.ListN.{length, length-set}
-use native.Mathlib.Omega.{arith}
-use Prim.Native.Nat.{ℕ, _≤_, _-_}
-use mathlib.Core.Path.{_≡_, refl, sym, _∙_, ap}
-use borrow.Author.Needs.{needs}
 use Rattle.running.proofs.lent.clear.Statement.{statement}
 use Rattle.running.proofs.lent.clear.Tie as tie
-use Rattle.running.proofs.lent.clear.Reads as reads
-use Rattle.running.proofs.lent.clear.Lts as lts
 
 abbrev Inv-loop : tie.InvT-loop
 Inv-loop work₀ i₀ work i = (i ≤ length work₀) × (work ≡ over i (zeros i) work₀) × (length work ≡ length work₀)
@@ -16,35 +14,30 @@ Inv-loop work₀ i₀ work i = (i ≤ length work₀) × (work ≡ over i (zeros
 abbrev μ-loop : tie.MeasureT-loop
 μ-loop work₀ i₀ work i = length work₀ - i
 
--- src/lent.rt:27:5
 loop-holds : tie.Need-loop-holds Inv-loop μ-loop
 loop-holds c = (omega arith, zero-none _, refl)
 
--- src/lent.rt:28:9
 slice-write-work : tie.Need-slice-write-work Inv-loop μ-loop
 slice-write-work c = search needs
 
--- src/lent.rt:29:9
 add-i : tie.Need-add-i Inv-loop μ-loop
 add-i c = search needs
 
--- src/lent.rt:27:5
 loop-less : tie.Need-loop-less Inv-loop μ-loop
 loop-less c = search needs
 
--- src/lent.rt:27:5
 loop-again : tie.Need-loop-again Inv-loop μ-loop
-loop-again c = let l = c .before in
+loop-again c =
+    let l = c .before in
     let w = l .before .args .work .now in
     (omega arith, rw (l .loop .inv .1) (zero-more w (l .loop .i) (omega arith)), length-set (l .loop .work) (l .loop .i) 0 ∙ l .loop .inv .2)
 
--- src/lent.rt:23:1
 same-length : tie.Need-same-length Inv-loop μ-loop
 same-length c = search needs
 
--- src/lent.rt:23:1
 returns : tie.Need-returns Inv-loop μ-loop
-returns c = let l = c .before in
+returns c =
+    let l = c .before in
     let w = l .before .args .work .now in
     let e : l .loop .i ≡ length w = omega arith in
     l .loop .inv .1 ∙ over-all (l .loop .i) (zeros (l .loop .i)) w (omega arith) ∙ ap zeros e

@@ -1,31 +1,25 @@
-use Rattle.running.proofs.Giving.{given-output, given-none}
-use Rattle.ground.proofs.Writes.{put-nothing, put-one}
 use native.Mathlib.Omega.{arith}
 use borrow.Author.Needs.{needs}
+use Rattle.ground.proofs.Writes.{put-nothing, put-one}
+use Rattle.running.proofs.Giving.{given-output, given-none}
 use Rattle.running.proofs.outputs.give.Statement.{statement}
 use Rattle.running.proofs.outputs.give.Tie as tie
-use Rattle.running.proofs.outputs.give.Reads as reads
-use Rattle.running.proofs.outputs.give.Lts as lts
 
--- src/outputs.rt:19:9
 slice-write-outs : tie.Need-slice-write-outs
-slice-write-outs c = let s = c .before .before in
+slice-write-outs c =
+    let s = c .before .before in
     let room = rw (given-output (s .args .r) (s .args .slot) (c .if1 .taken)) at (s .pre) in
     omega arith
 
--- src/outputs.rt:20:16
 add-result : tie.Need-add-result
 add-result c = search needs
 
--- src/outputs.rt:20:9
 same-length : tie.Need-same-length
 same-length c = search needs
 
--- src/outputs.rt:20:9
 returns : tie.Need-returns
 returns c = let s = c .before .before .args in rw (given-output (s .r) (s .slot) (c .if1 .taken)) (put-one (s .outs .now) (s .at) (s .slot))
 
--- src/outputs.rt:14:1
 returns-2 : tie.Need-returns-2
 returns-2 c = let s = c .before .before .args in rw (given-none (s .r) (s .slot) (c .if1 .left)) (put-nothing (s .outs .now) (s .at))
 

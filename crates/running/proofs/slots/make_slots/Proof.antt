@@ -1,13 +1,9 @@
-use Rattle.running.proofs.Laws.{Made, made-none, made-more, made-all}
-use native.Mathlib.Omega.{arith}
 use Prim.Native.Nat.{_≤_, _-_}
+use native.Mathlib.Omega.{arith}
 use borrow.Author.Needs.{needs}
+use Rattle.running.proofs.Laws.{Made, made-none, made-more, made-all}
 use Rattle.running.proofs.slots.make_slots.Statement.{statement}
 use Rattle.running.proofs.slots.make_slots.Tie as tie
-use Rattle.running.proofs.slots.make_slots.Reads as reads
-use Rattle.running.proofs.slots.make_slots.Lts as lts
-use Rattle.loadlist.proofs.records.record_at.Reads as record-at-reads
-use Rattle.running.proofs.slots.slot_of.Reads as slot-of-reads
 
 abbrev Inv-loop : tie.InvT-loop
 Inv-loop list ins work₀ n k₀ work k = (k ≤ n) × Made list ins n work₀ k work
@@ -15,45 +11,34 @@ Inv-loop list ins work₀ n k₀ work k = (k ≤ n) × Made list ins n work₀ k
 abbrev μ-loop : tie.MeasureT-loop
 μ-loop list ins work₀ n k₀ work k = n - k
 
--- src/slots.rt:58:5
 loop-holds : tie.Need-loop-holds Inv-loop μ-loop
 loop-holds c = (omega arith, made-none _ _ _ _)
 
--- src/slots.rt:59:13
 record-at-requires : tie.Need-record-at-requires Inv-loop μ-loop
 record-at-requires c κs = search needs
 
--- src/slots.rt:60:13
 slot-of-requires : tie.Need-slot-of-requires Inv-loop μ-loop
 slot-of-requires c κs = search needs
 
--- src/slots.rt:61:9
 slice-write-work : tie.Need-slice-write-work Inv-loop μ-loop
 slice-write-work c = search needs
 
--- src/slots.rt:62:9
 add-k : tie.Need-add-k Inv-loop μ-loop
 add-k c = search needs
 
--- src/slots.rt:58:5
 loop-less : tie.Need-loop-less Inv-loop μ-loop
 loop-less c = search needs
 
--- src/slots.rt:58:5
 loop-again : tie.Need-loop-again Inv-loop μ-loop
-loop-again c = let l = c .before .before .before .before in
-    let s = l .before .before .before .before .args in
-    (omega arith, made-more (s .list .now) (s .ins .now) (s .n) (s .work .now) (l .loop .k) (l .loop .work) _ _ (l .loop .inv .1) (c .before .before .before .loop-test .taken) (omega arith) (c .before .before .record-at .ensures) (c .slot-of .ensures))
+loop-again c =
+    let l = c .before .before .before .before in
+    (omega arith, made-more (l .loop .inv .1) (c .before .before .before .loop-test .taken) (omega arith) (c .before .before .record-at .ensures) (c .slot-of .ensures))
 
--- src/slots.rt:53:1
 same-length : tie.Need-same-length Inv-loop μ-loop
 same-length c = c .before .loop .inv .1 .long
 
--- src/slots.rt:53:1
 returns : tie.Need-returns Inv-loop μ-loop
-returns c = let l = c .before in
-    let s = l .before .before .before .before .args in
-    made-all (s .list .now) (s .ins .now) (s .n) (s .work .now) (l .loop .k) (l .loop .work) (l .loop .inv .1) (omega arith)
+returns c = made-all (c .before .loop .inv .1) (omega arith)
 
 pub make-slots-spec : {M : Type 1} → statement M
 make-slots-spec =
