@@ -1,1 +1,5 @@
 pub mod Cases
+pub mod Good
+pub mod Laws
+pub mod Walk
+pub mod Written

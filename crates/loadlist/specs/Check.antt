@@ -7,8 +7,11 @@ use mathlib.Core.Option.{Option, none, some}
 use lib.Dec.{leb, ltb, eqb}
 use lib.ListN.{length, getD, take, drop}
 use Rattle.ground.specs.Choice.{pick}
-use Rattle.loadlist.specs.Records.{recordIn, inputOp, notOp, outputOp}
+use Rattle.ground.specs.Lists.{total}
+use Rattle.loadlist.specs.Records.{recordIn, recordsIn, inputOp, notOp, outputOp}
 use Rattle.loadlist.specs.declared.Record.{Record}
+use Rattle.loadlist.specs.declared.Listed.{Listed}
+use Rattle.loadlist.specs.declared.Listed.the-variants.{Good, Bad}
 
 -- "mark 47 53, operation, 0"
 abbrev pub marked : List ℕ → Bool
@@ -49,3 +52,17 @@ recordCount s = (length s + 7) / 8
 
 unfoldable pub badRecord : List ℕ → Option ℕ
 badRecord s = badRecordFrom (recordCount s) s 0 0 0
+
+abbrev pub records : List ℕ → List Record
+records s = recordsIn (recordCount s) s
+
+abbrev pub recordsWith : ℕ → List Record → ℕ
+recordsWith op rs = total (λ r. pick (eqb (r .op) op) 1 0) rs
+
+-- THE CHECK: the first bad record, or the numbers of input and output records
+abbrev pub listedFrom : List ℕ → Option ℕ → Listed
+listedFrom s (some k) = Bad k
+listedFrom s none = Good (recordsWith inputOp (records s)) (recordsWith outputOp (records s))
+
+unfoldable pub listedOf : List ℕ → Listed
+listedOf s = listedFrom s (badRecord s)

@@ -6,12 +6,12 @@ use mathlib.Core.Option.{Option, none, some}
 use lib.Dec.{ltb, eqb}
 use lib.ListN.{length, getD}
 use Rattle.ground.specs.Choice.{pick}
-use Rattle.ground.specs.Lists.{every, total}
+use Rattle.ground.specs.Lists.{every}
 use Rattle.ground.specs.Refusals.{at, refusal}
 use Rattle.ground.specs.Regions.{zeros, pad, over}
 use Rattle.trit.specs.Trit.{notOf, andOf, orOf, xorOf}
-use Rattle.loadlist.specs.Records.{recordsIn, inputOp, notOp, andOp, orOp, xorOp, outputOp}
-use Rattle.loadlist.specs.Check.{recordCount, badRecord}
+use Rattle.loadlist.specs.Records.{inputOp, notOp, andOp, orOp, xorOp, outputOp}
+use Rattle.loadlist.specs.Check.{records, recordsWith, badRecord}
 use Rattle.loadlist.specs.declared.Record.{Record}
 use Rattle.loadlist.specs.declared.Ran.{Ran}
 use Rattle.loadlist.specs.declared.Ran.the-variants as ran
@@ -38,17 +38,11 @@ outputsIn [] slots = []
 outputsIn (r ∷ rs) [] = []
 outputsIn (r ∷ rs) (x ∷ slots) = elim (eqb (r .op) outputOp) [ true ↦ x ∷ outputsIn rs slots | false ↦ outputsIn rs slots ]
 
-abbrev pub listOf : List ℕ → List Record
-listOf list = recordsIn (recordCount list) list
-
 abbrev pub slots : List ℕ → List ℕ → List ℕ
-slots list ins = slotsFrom (listOf list) ins []
+slots list ins = slotsFrom (records list) ins []
 
 abbrev pub outputs : List ℕ → List ℕ → List ℕ
-outputs list ins = outputsIn (listOf list) (slots list ins)
-
-abbrev pub recordsWith : ℕ → List Record → ℕ
-recordsWith op rs = total (λ r. pick (eqb (r .op) op) 1 0) rs
+outputs list ins = outputsIn (records list) (slots list ins)
 
 -- 23: "assignment of wrong length, or a byte above 2 (X is 2)"
 abbrev pub assigns : ℕ → List ℕ → Bool
@@ -74,7 +68,7 @@ refused n k outs work = made (ran.Refused (refusal n (at k))) outs (over workLen
 abbrev pub ranFrom : Option ℕ → List ℕ → List ℕ → List ℕ → List ℕ → Outcome
 ranFrom (some k) list ins outs work = refused 22 k outs work
 ranFrom none list ins outs work =
-    pick (not (assigns (recordsWith inputOp (listOf list)) ins)) (refused 23 0 outs work)
+    pick (not (assigns (recordsWith inputOp (records list)) ins)) (refused 23 0 outs work)
     (pick (ltb (length outs) (length (outputs list ins))) (refused 24 0 outs work)
     (made (ran.Outputs (length (outputs list ins))) (over (length (outputs list ins)) (outputs list ins) outs)
     (over workLength (pad workLength (slots list ins)) work)))

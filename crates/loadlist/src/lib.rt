@@ -1,5 +1,9 @@
-// The load list: its records, its check and its run. It promises that a list is refused or run as the definitions of specs/ say,
-// every slot, output and lent byte included. Trits stand below it; cells, translation and the programs above.
+// The load list: its records and its check, and, in specs/Run, what a run of it is. It promises that any record of any list is read,
+// that a record is read back as it was written, and the first bad record of every list. Trits stand below it; the run, cells and
+// translation above.
+pub mod check;
+pub mod records;
+
 use ground::Refusal;
 
 // A record: an operation and its two fields. Record k makes slot k.
@@ -7,6 +11,12 @@ pub struct Record {
     pub op: u8,
     pub first: u16,
     pub second: u16,
+}
+
+// A list that is good, with the number of its input and output records; or the place of its first bad record.
+pub enum Listed {
+    Good { inputs: usize, outputs: usize },
+    Bad(usize),
 }
 
 // The number of output bits given, or a refusal.

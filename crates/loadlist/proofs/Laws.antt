@@ -1,0 +1,75 @@
+-- Laws of the definitions at a record of the list: what the code's returns and loops go by.
+use mathlib.Core.Path.{_≡_, sym, _∙_}
+use mathlib.Core.Bool.{true, false}
+use mathlib.Core.List.{List}
+use Prim.Native.Nat.{ℕ, _+_, _*_, _/_, _<_, _≤_}
+use native.Mathlib.Nat.{add-zero}
+use native.Mathlib.Omega.{arith}
+use lib.Dec.{eqb, leb}
+use lib.ListN.{length, take, drop, getD, length-take, length-drop}
+use lib.Seq.{getD-drop}
+use borrow.Author.Tests.{lt-ltb, le-ltb, le-leb, lt-leb, leb-true, leb-false, eq-eqb, ne-eqb}
+use Rattle.ground.proofs.Bools.{bool-cases}
+use Rattle.ground.proofs.Rest.{rest-end}
+use Rattle.loadlist.specs.Records.{rec, recordIn}
+use Rattle.loadlist.specs.Check.{isWhole, marked, firstFits, secondFits, goodRecord}
+
+-- a record is whole where eight bytes are left
+pub whole-there : (s : List ℕ) (k : ℕ) → leb (8 * k + 8) (length s) ≡ isWhole (drop (8 * k) s)
+whole-there s k = bool-cases (leb (8 * k + 8) (length s))
+    (λ e. let h = leb-true (8 * k + 8) (length s) e in
+    let p : length (take 8 (drop (8 * k) s)) ≡ 8 = simp (length-take, length-drop) (omega arith) in
+    e ∙ sym (eq-eqb _ 8 p))
+    (λ e. let h = leb-false (8 * k + 8) (length s) e in
+    let p : length (take 8 (drop (8 * k) s)) ≡ 8 → ⊥ = λ q. let l = simp (length-take, length-drop) at q in omega arith in
+    e ∙ sym (ne-eqb _ 8 p))
+
+-- the bytes of record k stand at 8 * k
+pub read-there : (s : List ℕ) (at : ℕ) → rec (getD s (at + 2) 0) (getD s (at + 4) 0 + 256 * getD s (at + 5) 0) (getD s (at + 6) 0 + 256 * getD s (at + 7) 0) ≡ recordIn (drop at s)
+read-there s at = simp getD-drop
+
+-- past the end a record of zeros is read
+pub read-past : (s : List ℕ) (k : ℕ) → length s / 8 < k → rec 0 0 0 ≡ recordIn (drop (8 * k) s)
+read-past s k h = let p : length s ≤ 8 * k = omega arith in rw (rest-end s (8 * k) p)
+
+-- the tests of a good record, in their order
+module _ (s : List ℕ) (k inputs outputs : ℕ) where
+  pub good-late : 8192 ≤ k → false ≡ goodRecord s k inputs outputs
+  unfolding goodRecord
+  good-late h = rw (le-ltb k 8192 h)
+
+  module _ (early : k < 8192) where
+    pub good-part : isWhole s ≡ false → false ≡ goodRecord s k inputs outputs
+    unfolding goodRecord
+    good-part e = rw (lt-ltb k 8192 early, e)
+
+    module _ (whole : isWhole s ≡ true) where
+      pub good-unmarked : marked s ≡ false → false ≡ goodRecord s k inputs outputs
+      unfolding goodRecord
+      good-unmarked e = rw (lt-ltb k 8192 early, whole, e)
+
+      module _ (mark : marked s ≡ true) where
+        pub good-no-operation : 8 < recordIn s .op → false ≡ goodRecord s k inputs outputs
+        unfolding goodRecord
+        good-no-operation e = rw (lt-ltb k 8192 early, whole, mark, lt-leb (recordIn s .op) 8 e)
+
+        module _ (operation : recordIn s .op ≤ 8) where
+          pub good-first : firstFits (recordIn s) k inputs ≡ false → false ≡ goodRecord s k inputs outputs
+          unfolding goodRecord
+          good-first e = rw (lt-ltb k 8192 early, whole, mark, le-leb (recordIn s .op) 8 operation, e)
+
+          pub good-second : firstFits (recordIn s) k inputs ≡ true → secondFits (recordIn s) k outputs ≡ goodRecord s k inputs outputs
+          unfolding goodRecord
+          good-second e = rw (lt-ltb k 8192 early, whole, mark, le-leb (recordIn s .op) 8 operation, e)
+
+-- the mark's tests, in their order
+module _ (s : List ℕ) (at : ℕ) where
+  pub mark-first : (getD s at 0 ≡ 0x47 → ⊥) → false ≡ marked (drop at s)
+  mark-first e = simp (getD-drop, add-zero, ne-eqb (getD s at 0) 0x47 e)
+
+  module _ (first : getD s at 0 ≡ 0x47) where
+    pub mark-second : (getD s (at + 1) 0 ≡ 0x53 → ⊥) → false ≡ marked (drop at s)
+    mark-second e = simp (getD-drop, add-zero, eq-eqb (getD s at 0) 0x47 first, ne-eqb (getD s (at + 1) 0) 0x53 e)
+
+    pub mark-zero : getD s (at + 1) 0 ≡ 0x53 → eqb (getD s (at + 3) 0) 0 ≡ marked (drop at s)
+    mark-zero e = simp (getD-drop, add-zero, eq-eqb (getD s at 0) 0x47 first, eq-eqb (getD s (at + 1) 0) 0x53 e)
