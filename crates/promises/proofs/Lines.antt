@@ -27,7 +27,7 @@ use Rattle.printing.specs.Decimal.{digits, places, signed}
 use Rattle.printing.specs.Words.{text, number, hash, escaped, quoted, trits, reference, offset, width, runs, references}
 use Rattle.printing.specs.Lines.{option, point, metaLines, ioLines, numbersFrom, nameText, operandText, cellLine, cellLines, lines, canonical}
 use Rattle.loadlist.specs.Records.{recordsIn}
-use Rattle.loadlist.specs.Check.{goodRecord, badRecordFrom, badRecord}
+use Rattle.loadlist.specs.Check.{goodRecord, badRecordFrom, badRecord, listedOf}
 use Rattle.loadlist.specs.Run.{slotsFrom, outputsIn, runOf}
 use Rattle.cells.specs.Operands.{cellReads, bitsFrom}
 use Rattle.cells.specs.Values.{kindValue, cellValue}
@@ -44,10 +44,10 @@ use Rattle.promises.specs.More.{moreLines}
 
 -- THE LINES MARKED P hold of the definitions
 pub lines-hold : map (λ (l : Line). answerTo (l .ask)) markedLines ≡ map (λ (l : Line). l .answer) markedLines
-unfolding every allOf total joined upFrom updated zeros blank fits pad over part bytes same notOf andOf orOf xorOf holds countOf carryOf notBits pairs adcBits clash agree someClash allAgree eqBit ultFrom ultBit sltFrom sltBit muxBits mem allPlaced ready lowestFrom lowest place orderFrom order some leftOut kindAt classFrom classOf classesFrom table tailOf badFrom endsInFeed wholeOf spanEnd commentEnd insideEnd digitsFrom numeralAt suffixAt stringFrom quotedAt metaOf numberOf constantOf cellOf ioOf wordOf longOf follows tokenFrom tokenAt insideAt numbered nextPart concatFrom operandAt partsFrom partsAt nextMember setFrom membersFrom setForm pointAt sourceForm linkAt optionAt scopeForm identForm attrForm metaForm ioForm operandIf metaIf wiringForm namedForm cellForm bodyForm openForm formAt formOf falling knownBits cut longest taken distinct namesAs roomy metasSound valid laid good short checkOf ioFrom lookupOf rowFrom copies operandRuns operandPieces saidBy added firstMisnamed ruledOut declarationsFrom firstUnresolved netlistOf readSound reading digits places signed text number hash escaped quoted trits reference offset width runs references option point metaLines ioLines numbersFrom nameText operandText cellLine cellLines lines canonical recordsIn goodRecord badRecordFrom badRecord slotsFrom outputsIn runOf cellReads bitsFrom kindValue cellValue notMade gateMade muxFrom muxMade adcMade eqFrom eqMade ultMade sltMade kindMade outputsFrom placingOf ringed valuesFrom assigned evaluation inputRecords inputSlots cellRecords cellSlots outputRecords translation recordSum answerTo print.written name.written name.nameFrom
+unfolding every allOf total joined upFrom updated zeros blank fits pad over part bytes same notOf andOf orOf xorOf holds countOf carryOf notBits pairs adcBits clash agree someClash allAgree eqBit ultFrom ultBit sltFrom sltBit muxBits mem allPlaced ready lowestFrom lowest place orderFrom order some leftOut kindAt classFrom classOf classesFrom table tailOf badFrom endsInFeed wholeOf spanEnd commentEnd insideEnd digitsFrom numeralAt suffixAt stringFrom quotedAt metaOf numberOf constantOf cellOf ioOf wordOf longOf follows tokenFrom tokenAt insideAt numbered nextPart concatFrom operandAt partsFrom partsAt nextMember setFrom membersFrom setForm pointAt sourceForm linkAt optionAt scopeForm identForm attrForm metaForm ioForm operandIf metaIf wiringForm namedForm cellForm bodyForm openForm formAt formOf falling knownBits cut longest taken distinct namesAs roomy metasSound valid laid good short checkOf ioFrom lookupOf rowFrom copies operandRuns operandPieces saidBy added firstMisnamed ruledOut declarationsFrom firstUnresolved netlistOf readSound reading digits places signed text number hash escaped quoted trits reference offset width runs references option point metaLines ioLines numbersFrom nameText operandText cellLine cellLines lines canonical recordsIn goodRecord badRecordFrom badRecord listedOf slotsFrom outputsIn runOf cellReads bitsFrom kindValue cellValue notMade gateMade muxFrom muxMade adcMade eqFrom eqMade ultMade sltMade kindMade outputsFrom placingOf ringed valuesFrom assigned evaluation inputRecords inputSlots cellRecords cellSlots outputRecords translation recordSum answerTo print.written name.written name.nameFrom
 lines-hold = refl
 
 -- so do the other lines, a case for each refusal number, and more lines
 pub refusals-hold : map (λ (l : Line). answerTo (l .ask)) (otherLines ++ (refusals ++ moreLines)) ≡ map (λ (l : Line). l .answer) (otherLines ++ (refusals ++ moreLines))
-unfolding every allOf total joined upFrom updated zeros blank fits pad over part bytes same notOf andOf orOf xorOf holds countOf carryOf notBits pairs adcBits clash agree someClash allAgree eqBit ultFrom ultBit sltFrom sltBit muxBits mem allPlaced ready lowestFrom lowest place orderFrom order some leftOut kindAt classFrom classOf classesFrom table tailOf badFrom endsInFeed wholeOf spanEnd commentEnd insideEnd digitsFrom numeralAt suffixAt stringFrom quotedAt metaOf numberOf constantOf cellOf ioOf wordOf longOf follows tokenFrom tokenAt insideAt numbered nextPart concatFrom operandAt partsFrom partsAt nextMember setFrom membersFrom setForm pointAt sourceForm linkAt optionAt scopeForm identForm attrForm metaForm ioForm operandIf metaIf wiringForm namedForm cellForm bodyForm openForm formAt formOf falling knownBits cut longest taken distinct namesAs roomy metasSound valid laid good short checkOf ioFrom lookupOf rowFrom copies operandRuns operandPieces saidBy added firstMisnamed ruledOut declarationsFrom firstUnresolved netlistOf readSound reading digits places signed text number hash escaped quoted trits reference offset width runs references option point metaLines ioLines numbersFrom nameText operandText cellLine cellLines lines canonical recordsIn goodRecord badRecordFrom badRecord slotsFrom outputsIn runOf cellReads bitsFrom kindValue cellValue notMade gateMade muxFrom muxMade adcMade eqFrom eqMade ultMade sltMade kindMade outputsFrom placingOf ringed valuesFrom assigned evaluation inputRecords inputSlots cellRecords cellSlots outputRecords translation recordSum answerTo print.written name.written name.nameFrom
+unfolding every allOf total joined upFrom updated zeros blank fits pad over part bytes same notOf andOf orOf xorOf holds countOf carryOf notBits pairs adcBits clash agree someClash allAgree eqBit ultFrom ultBit sltFrom sltBit muxBits mem allPlaced ready lowestFrom lowest place orderFrom order some leftOut kindAt classFrom classOf classesFrom table tailOf badFrom endsInFeed wholeOf spanEnd commentEnd insideEnd digitsFrom numeralAt suffixAt stringFrom quotedAt metaOf numberOf constantOf cellOf ioOf wordOf longOf follows tokenFrom tokenAt insideAt numbered nextPart concatFrom operandAt partsFrom partsAt nextMember setFrom membersFrom setForm pointAt sourceForm linkAt optionAt scopeForm identForm attrForm metaForm ioForm operandIf metaIf wiringForm namedForm cellForm bodyForm openForm formAt formOf falling knownBits cut longest taken distinct namesAs roomy metasSound valid laid good short checkOf ioFrom lookupOf rowFrom copies operandRuns operandPieces saidBy added firstMisnamed ruledOut declarationsFrom firstUnresolved netlistOf readSound reading digits places signed text number hash escaped quoted trits reference offset width runs references option point metaLines ioLines numbersFrom nameText operandText cellLine cellLines lines canonical recordsIn goodRecord badRecordFrom badRecord listedOf slotsFrom outputsIn runOf cellReads bitsFrom kindValue cellValue notMade gateMade muxFrom muxMade adcMade eqFrom eqMade ultMade sltMade kindMade outputsFrom placingOf ringed valuesFrom assigned evaluation inputRecords inputSlots cellRecords cellSlots outputRecords translation recordSum answerTo print.written name.written name.nameFrom
 refusals-hold = refl
