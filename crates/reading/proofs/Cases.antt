@@ -151,10 +151,10 @@ cases =
     ∷ case "!0 = attr \"\" \"a\"\n" (refusedAt 11 0)
     ∷ case "\n\r" (refusedAt 3 1)
     ∷ case "$ " (refusedAt 4 2)
-    ∷ case ";\x00\x01\x7f\x0b\n" accepted
+    ∷ case ";\0\u{1}\u{7f}\u{b}\n" accepted
     ∷ case " \t\n;x\r\n\r\n" accepted
-    ∷ case "\x0c\n" (refusedAt 5 0)
-    ∷ case "%0:1 = input \"\x7f\"\n" (refusedAt 5 13)
+    ∷ case "\u{c}\n" (refusedAt 5 0)
+    ∷ case "%0:1 = input \"\u{7f}\"\n" (refusedAt 5 13)
     ∷ case "!0 = scope #0\n!1 = {!0 !0}\n!2 = {!0 !1}\n" (refusedAt 10 36)
     ∷ case "%0:1 = buf [0]*1\n" (refusedAt 5 14)
     ∷ case "!1*2 = scope #0\n" (refusedAt 5 2)
