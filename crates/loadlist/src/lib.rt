@@ -1,7 +1,7 @@
 // The load list: its records and its check, and, in specs/Run, what a run of it is. It promises that any record of any list is read,
 // that a record is read back as it was written, and the first bad record of every list. Trits stand below it; the run, cells and
 // translation above.
-pub mod check;
+pub mod checking;
 pub mod records;
 
 use ground::Refusal;

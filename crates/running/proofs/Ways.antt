@@ -140,3 +140,10 @@ module _ (list ins outs work : List ℕ) where
   -- the run's contract allows one outcome
   pub one-outcome : (o p : Outcome) → o ≡ runOf list ins outs work → p ≡ runOf list ins outs work → o ≡ p
   one-outcome o p = any-two (λ (l : List ℕ). runOf l ins outs work) list o p
+
+  -- a good list, bits for its inputs and enough room: the outputs and the slots
+  pub succeeds : badRecord list ≡ none → assigns (recordsWith inputOp (records list)) ins ≡ true → length (outputs list ins) ≤ length outs → 8192 ≤ length work
+      → runOf list ins outs work
+      ≡ made (Outputs (length (outputs list ins))) (over (length (outputs list ins)) (outputs list ins) outs) (over 8192 (pad 8192 (slots list ins)) work)
+  unfolding runOf
+  succeeds good fit room long = rw (le-ltb (length work) 8192 long, good, fit, le-ltb (length outs) (length (outputs list ins)) room)

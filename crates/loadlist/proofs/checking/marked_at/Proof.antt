@@ -2,8 +2,8 @@ use mathlib.Core.Path.{_∙_, sym}
 use Prim.Native.Nat.{_*_}
 use borrow.Author.Needs.{needs}
 use Rattle.loadlist.proofs.Laws.{mark-first, mark-second, mark-zero}
-use Rattle.loadlist.proofs.check.marked_at.Statement.{statement}
-use Rattle.loadlist.proofs.check.marked_at.Tie as tie
+use Rattle.loadlist.proofs.checking.marked_at.Statement.{statement}
+use Rattle.loadlist.proofs.checking.marked_at.Tie as tie
 
 mul-at : tie.Need-mul-at
 mul-at c = search needs

@@ -1,7 +1,7 @@
 use borrow.Author.Needs.{needs}
 use Rattle.loadlist.proofs.Laws.{whole-there}
-use Rattle.loadlist.proofs.check.whole_at.Statement.{statement}
-use Rattle.loadlist.proofs.check.whole_at.Tie as tie
+use Rattle.loadlist.proofs.checking.whole_at.Statement.{statement}
+use Rattle.loadlist.proofs.checking.whole_at.Tie as tie
 
 mul-result : tie.Need-mul-result
 mul-result c = search needs

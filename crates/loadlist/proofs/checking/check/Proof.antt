@@ -3,8 +3,8 @@ use Prim.Native.Nat.{_≤_, _-_}
 use native.Mathlib.Omega.{arith}
 use borrow.Author.Needs.{needs}
 use Rattle.loadlist.proofs.Walk.{Passed, passed-none, passed-more, listed-bad, listed-good, good-early}
-use Rattle.loadlist.proofs.check.check.Statement.{statement}
-use Rattle.loadlist.proofs.check.check.Tie as tie
+use Rattle.loadlist.proofs.checking.check.Statement.{statement}
+use Rattle.loadlist.proofs.checking.check.Tie as tie
 
 abbrev Inv-loop : tie.InvT-loop
 Inv-loop list n k₀ inputs₀ outputs₀ k inputs outputs = (k ≤ 8192) × (k ≤ n) × (inputs ≤ k) × (outputs ≤ k) × Passed list n k inputs outputs

@@ -3,8 +3,8 @@ use Prim.Native.Nat.{_*_}
 use lib.ListN.{drop}
 use borrow.Author.Needs.{needs}
 use Rattle.loadlist.proofs.Laws.{good-late, good-part, good-unmarked, good-no-operation, good-first, good-second}
-use Rattle.loadlist.proofs.check.good_record.Statement.{statement}
-use Rattle.loadlist.proofs.check.good_record.Tie as tie
+use Rattle.loadlist.proofs.checking.good_record.Statement.{statement}
+use Rattle.loadlist.proofs.checking.good_record.Tie as tie
 
 returns : tie.Need-returns
 returns c = let s = c .before .before .args in good-late (drop (8 * s .k) (s .list .now)) (s .k) (s .inputs) (s .outputs) (c .if1 .taken)

@@ -2,8 +2,8 @@ use native.Mathlib.Omega.{arith}
 use borrow.Author.Tests.{ne-eqb}
 use borrow.Author.Needs.{needs}
 use Rattle.ground.proofs.Tests.{tests}
-use Rattle.loadlist.proofs.check.counted_with.Statement.{statement}
-use Rattle.loadlist.proofs.check.counted_with.Tie as tie
+use Rattle.loadlist.proofs.checking.counted_with.Statement.{statement}
+use Rattle.loadlist.proofs.checking.counted_with.Tie as tie
 
 add-result : tie.Need-add-result
 add-result c = search needs
