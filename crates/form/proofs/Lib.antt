@@ -1,3 +1,4 @@
 pub mod Letters
 pub mod Measures
+pub mod Steps
 pub mod Widths

@@ -126,7 +126,7 @@ partsFrom (suc f) text k = elim (nextPart text k) [
   | parted.Other t r ↦ []
 ]
 
-abbrev partsOf : List ℕ → Step → List PartAt
+abbrev pub partsOf : List ℕ → Step → List PartAt
 partsOf text (step.Refused g) = []
 partsOf text (step.Took t r) =
     pick (isPart t) (record { part = partOf t; place = t .place } ∷ [])

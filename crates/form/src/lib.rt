@@ -2,6 +2,7 @@
 // place, is the one that the definitions of specs/ give. The rules 9 to 14 stand above it, the tokens below.
 pub mod forms;
 pub mod parts;
+pub mod walks;
 pub mod words;
 
 use ground::Place;
