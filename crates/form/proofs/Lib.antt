@@ -1,4 +1,6 @@
+pub mod Cases
 pub mod Letters
 pub mod Measures
+pub mod Outcomes
 pub mod Steps
 pub mod Widths

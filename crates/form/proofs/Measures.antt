@@ -1,7 +1,7 @@
--- How the measures of concatenations and sets go on, and how the walks over parts and members do.
+-- How the measures of concatenations and sets go on, with f parts or members still allowed.
 -- Assumes nothing.
-use mathlib.Core.Path.{_≡_, refl, sym, _∙_}
-use mathlib.Core.List.{List, [], _∷_}
+use mathlib.Core.Path.{_≡_, refl}
+use mathlib.Core.List.{List}
 use Prim.Native.Nat.{ℕ, zero, suc, _+_, _-_, _<_, _≤_}
 use native.Mathlib.Numerals.{sub-one}
 use native.Mathlib.Omega.{arith}
@@ -17,69 +17,54 @@ use Rattle.form.specs.declared.Parted.the-variants as parted
 use Rattle.form.specs.declared.Membered.the-variants as membered
 use Rattle.form.specs.declared.Measured.the-variants as measured
 
-module _ (f : ℕ) (text : List ℕ) (n k : ℕ) where
-  -- at no part more
-  pub concat-none : f ≤ 0 → measured.Refused (refusal 7 (at k)) ≡ concatFrom f text n k
-  unfolding concatFrom
-  concat-none h = go f h
-    where
-      go : (f : ℕ) → f ≤ 0 → measured.Refused (refusal 7 (at k)) ≡ concatFrom f text n k
-      go zero h = refl
-      go (suc f) h = absurd (omega arith)
+pub concat-none : (f : ℕ) (text : List ℕ) (n k : ℕ) → f ≤ 0 → measured.Refused (refusal 7 (at k)) ≡ concatFrom f text n k
+unfolding concatFrom
+concat-none zero text n k h = refl
+concat-none (suc f) text n k h = absurd (omega arith)
 
-  pub concat-took : 0 < f → (p : Part) (place : Place) (r : Reader) → nextPart text k ≡ parted.Took p place r → concatFrom (f - 1) text (n + partWidth p) (r .next .at) ≡ concatFrom f text n k
-  unfolding concatFrom
-  concat-took h p place r e = go f h
-    where
-      go : (f : ℕ) → 0 < f → concatFrom (f - 1) text (n + partWidth p) (r .next .at) ≡ concatFrom f text n k
-      go zero h = absurd (omega arith)
-      go (suc f) h = simp sub-one (rw (e, concatFrom))
+pub concat-took :
+    (f : ℕ) (text : List ℕ) (n k : ℕ) → 0 < f → (p : Part) (place : Place) (r : Reader) → nextPart text k ≡ parted.Took p place r
+    → concatFrom (f - 1) text (n + partWidth p) (r .next .at) ≡ concatFrom f text n k
+unfolding concatFrom
+concat-took zero text n k h p place r e = absurd (omega arith)
+concat-took (suc f) text n k h p place r e = simp sub-one (rw (e, concatFrom))
 
-  pub concat-other : 0 < f → (t : Token) (r : Reader) → nextPart text k ≡ parted.Other t r → concatEnd n t r ≡ concatFrom f text n k
-  unfolding concatFrom
-  concat-other h t r e = go f h
-    where
-      go : (f : ℕ) → 0 < f → concatEnd n t r ≡ concatFrom f text n k
-      go zero h = absurd (omega arith)
-      go (suc f) h = rw (e, concatFrom)
+pub concat-other :
+    (f : ℕ) (text : List ℕ) (n k : ℕ) → 0 < f → (t : Token) (r : Reader) → nextPart text k ≡ parted.Other t r
+    → concatEnd n t r ≡ concatFrom f text n k
+unfolding concatFrom
+concat-other zero text n k h t r e = absurd (omega arith)
+concat-other (suc f) text n k h t r e = rw (e, concatFrom)
 
-  pub concat-refused : 0 < f → (g : Refusal) → nextPart text k ≡ parted.Refused g → measured.Refused g ≡ concatFrom f text n k
-  unfolding concatFrom
-  concat-refused h g e = go f h
-    where
-      go : (f : ℕ) → 0 < f → measured.Refused g ≡ concatFrom f text n k
-      go zero h = absurd (omega arith)
-      go (suc f) h = rw (e, concatFrom)
+pub concat-refused :
+    (f : ℕ) (text : List ℕ) (n k : ℕ) → 0 < f → (g : Refusal) → nextPart text k ≡ parted.Refused g
+    → measured.Refused g ≡ concatFrom f text n k
+unfolding concatFrom
+concat-refused zero text n k h g e = absurd (omega arith)
+concat-refused (suc f) text n k h g e = rw (e, concatFrom)
 
-  -- the same of a set
-  pub set-none : f ≤ 0 → measured.Refused (refusal 7 (at k)) ≡ setFrom f text n k
-  unfolding setFrom
-  set-none h = go f h
-    where
-      go : (f : ℕ) → f ≤ 0 → measured.Refused (refusal 7 (at k)) ≡ setFrom f text n k
-      go zero h = refl
-      go (suc f) h = absurd (omega arith)
+pub set-none : (f : ℕ) (text : List ℕ) (n k : ℕ) → f ≤ 0 → measured.Refused (refusal 7 (at k)) ≡ setFrom f text n k
+unfolding setFrom
+set-none zero text n k h = refl
+set-none (suc f) text n k h = absurd (omega arith)
 
-  pub set-took : 0 < f → (m : Ref) (r : Reader) → nextMember text k ≡ membered.Took m r → setFrom (f - 1) text (n + 1) (r .next .at) ≡ setFrom f text n k
-  unfolding setFrom
-  set-took h m r e = go f h
-    where
-      go : (f : ℕ) → 0 < f → setFrom (f - 1) text (n + 1) (r .next .at) ≡ setFrom f text n k
-      go zero h = absurd (omega arith)
-      go (suc f) h = simp sub-one (rw (e, setFrom))
+pub set-took :
+    (f : ℕ) (text : List ℕ) (n k : ℕ) → 0 < f → (m : Ref) (r : Reader) → nextMember text k ≡ membered.Took m r
+    → setFrom (f - 1) text (n + 1) (r .next .at) ≡ setFrom f text n k
+unfolding setFrom
+set-took zero text n k h m r e = absurd (omega arith)
+set-took (suc f) text n k h m r e = simp sub-one (rw (e, setFrom))
 
-  pub set-other : 0 < f → (t : Token) (r : Reader) → nextMember text k ≡ membered.Other t r → setEnd n t r ≡ setFrom f text n k
-  unfolding setFrom
-  set-other h t r e = go f h
-    where
-      go : (f : ℕ) → 0 < f → setEnd n t r ≡ setFrom f text n k
-      go zero h = absurd (omega arith)
-      go (suc f) h = rw (e, setFrom)
+pub set-other :
+    (f : ℕ) (text : List ℕ) (n k : ℕ) → 0 < f → (t : Token) (r : Reader) → nextMember text k ≡ membered.Other t r
+    → setEnd n t r ≡ setFrom f text n k
+unfolding setFrom
+set-other zero text n k h t r e = absurd (omega arith)
+set-other (suc f) text n k h t r e = rw (e, setFrom)
 
-  pub set-refused : 0 < f → (g : Refusal) → nextMember text k ≡ membered.Refused g → measured.Refused g ≡ setFrom f text n k
-  unfolding setFrom
-  set-refused h g e = go f h
-    where
-      go : (f : ℕ) → 0 < f → measured.Refused g ≡ setFrom f text n k
-      go zero h = absurd (omega arith)
-      go (suc f) h = rw (e, setFrom)
+pub set-refused :
+    (f : ℕ) (text : List ℕ) (n k : ℕ) → 0 < f → (g : Refusal) → nextMember text k ≡ membered.Refused g
+    → measured.Refused g ≡ setFrom f text n k
+unfolding setFrom
+set-refused zero text n k h g e = absurd (omega arith)
+set-refused (suc f) text n k h g e = rw (e, setFrom)

@@ -1,13 +1,12 @@
 -- The steps of a walk give exactly the parts of the operand, and those of a tour the members of the set.
 -- Assumes nothing.
-use mathlib.Core.Path.{_≡_, refl, sym, _∙_, ap}
-use mathlib.Core.Bool.{Bool, true, false}
-use mathlib.Core.List.{List, [], _∷_}
-use Prim.Native.Nat.{ℕ, zero, suc, _+_, _-_, _<_, _≤_}
+use mathlib.Core.Path.{_≡_, refl, ap}
+use mathlib.Core.Bool.{false}
+use mathlib.Core.List.{List}
+use Prim.Native.Nat.{ℕ, zero, suc, _-_, _<_}
 use native.Mathlib.Numerals.{add-one}
 use native.Mathlib.Omega.{arith}
 use lib.Dec.{eqb}
-use lib.ListN.{length}
 use borrow.Author.Tests.{ne-eqb, eqb-false}
 use Rattle.ground.specs.Choice.{pick}
 use Rattle.ground.proofs.Bools.{bool-cases}
@@ -16,7 +15,7 @@ use Rattle.lexis.specs.Tokens.{tokenAt}
 use Rattle.lexis.specs.declared.Reader.{Reader}
 use Rattle.lexis.specs.declared.Step.{Step}
 use Rattle.lexis.specs.declared.Step.the-variants as step
-use Rattle.form.specs.Parts.{isPart, partOf, PartAt, partsOf, partsAt, partsFrom, membersAt, membersFrom, nextPart, nextMember}
+use Rattle.form.specs.Parts.{isPart, partsOf, partsAt, partsFrom, membersAt, membersFrom, nextPart, nextMember}
 use Rattle.form.specs.Walks.{walkFrom, walkOf, walkOn, walkStep, partsLeft, partsOn, mostParts, tourAt, tourOn, tourStep, membersLeft, membersOn}
 use Rattle.form.specs.declared.Operand.{Operand}
 use Rattle.form.specs.declared.Part.{Part}

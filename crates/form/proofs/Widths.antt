@@ -1,10 +1,10 @@
 -- A part of a text of at most 65,536 bytes is no wider than 65,536 times 65,536.
 -- Assumes nothing.
-use mathlib.Core.Path.{_≡_, refl, sym, _∙_, subst}
+use mathlib.Core.Path.{_≡_, refl, subst}
 use mathlib.Core.Bool.{Bool, true, false, _||_}
 use mathlib.Core.List.{List, [], _∷_}
-use Prim.Native.Nat.{ℕ, zero, suc, _+_, _-_, _*_, _<_, _≤_}
-use native.Mathlib.Nat.{le-trans, mul-le-mul}
+use Prim.Native.Nat.{ℕ, _+_, _-_, _≤_}
+use native.Mathlib.Nat.{mul-le-mul}
 use native.Mathlib.Omega.{arith}
 use lib.Dec.{leb, ltb, eqb}
 use lib.ListN.{length, drop, getD, length-drop}
@@ -25,7 +25,7 @@ use Rattle.lexis.specs.declared.pieces.Suffix.{Suffix}
 use Rattle.lexis.specs.declared.pieces.Quoted.{Quoted}
 use Rattle.lexis.specs.declared.pieces.Quoted.the-variants.{Closed, Malformed}
 use Rattle.form.specs.Words.{isSort}
-use Rattle.form.specs.Parts.{isPart, str, partOf, baseOf, baseWidth, partWidth, widest, Narrow, partedOf, nextPart}
+use Rattle.form.specs.Parts.{isPart, str, partOf, partWidth, widest, Narrow, partedOf, nextPart}
 use Rattle.form.specs.declared.Base.{Base}
 use Rattle.form.specs.declared.Base.the-variants.{Constant, Cell}
 use Rattle.form.specs.declared.Part.{Part}

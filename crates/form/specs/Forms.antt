@@ -9,8 +9,6 @@ use Rattle.ground.specs.Refusals.{at, refusal}
 use Rattle.ground.specs.Text.{bytes}
 use Rattle.kinds.specs.Kinds.{kindAt}
 use Rattle.lexis.specs.Tokens.{tokenAt, insideAt, lineEnd, textEnd, word, constant, number, meta, io, cell, string, placeholder}
-use Rattle.ground.specs.declared.Place.{Place}
-use Rattle.lexis.specs.declared.Reader.{Reader}
 use Rattle.lexis.specs.declared.Token.{Token}
 use Rattle.lexis.specs.declared.Step.{Step}
 use Rattle.lexis.specs.declared.Step.the-variants as step

@@ -1,9 +1,9 @@
 -- Operands and sets: their parts, their measure, and the parts again one by one.
 use mathlib.Core.Path.{_≡_}
 use Prim.Native.Nat.{ℕ, zero, suc, _+_, _*_, _≤_}
-use mathlib.Core.Bool.{Bool, true, false, _&&_, _||_}
+use mathlib.Core.Bool.{Bool, true, false, _||_}
 use mathlib.Core.List.{List, [], _∷_}
-use lib.Dec.{leb, eqb}
+use lib.Dec.{leb}
 use lib.ListN.{length}
 use Rattle.ground.specs.Choice.{pick}
 use Rattle.ground.specs.Refusals.{at, refusal}
@@ -15,7 +15,6 @@ use Rattle.lexis.specs.declared.Step.{Step}
 use Rattle.lexis.specs.declared.Step.the-variants as step
 use Rattle.form.specs.Words.{isSort, isMark}
 use Rattle.form.specs.declared.Str.{Str}
-use Rattle.form.specs.declared.Piece.{Piece}
 use Rattle.form.specs.declared.Ref.{Ref}
 use Rattle.form.specs.declared.Operand.{Operand}
 use Rattle.form.specs.declared.Base.{Base}
@@ -30,8 +29,6 @@ use Rattle.form.specs.declared.Measured.{Measured}
 use Rattle.form.specs.declared.Measured.the-variants as measured
 use Rattle.form.specs.declared.Taken.{Taken}
 use Rattle.form.specs.declared.Taken.the-variants as taken
-use Rattle.form.specs.declared.Linked.{Linked}
-use Rattle.form.specs.declared.Linked.the-variants as linked
 
 -- Document 01, Text: "Each operand part is a constant, a cell piece or a repetition of either"
 abbrev pub isPart : Token → Bool

@@ -32,7 +32,6 @@ use lexis::Step;
 use lexis::Token;
 use lexis::classes::classes;
 ghost use mathlib.Core.Path.{_≡_};
-ghost use mathlib.Core.Bool.{Bool, _||_};
 ghost use Prim.Native.Nat.{_≤_};
 ghost use lib.ListN.{length};
 ghost use Rattle.ground.specs.Choice.{pick};

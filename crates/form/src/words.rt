@@ -1,7 +1,6 @@
 // The words of the text: letters are compared where they stand, with no copy.
 use lexis::Token;
 ghost use mathlib.Core.Path.{_≡_};
-ghost use mathlib.Core.Bool.{_&&_};
 ghost use lib.ListN.{take, drop};
 ghost use Rattle.ground.specs.Text.{same};
 ghost use Rattle.kinds.specs.Kinds.{keywords};

@@ -1,6 +1,6 @@
--- What the table of kinds gives at each number.
+-- What the table of kinds gives at each number, and that each function on it has one outcome.
 use mathlib.Core.Path.{_≡_, refl, sym}
-use mathlib.Core.Bool.{Bool, true, false}
+use mathlib.Core.Bool.{Bool, false}
 use mathlib.Core.List.{List, [], _∷_}
 use Prim.Native.Nat.{ℕ, _<_, _≤_}
 use native.Mathlib.Omega.{arith}
@@ -8,6 +8,7 @@ use lib.Dec.{eqb}
 use lib.ListN.{getD}
 use borrow.Author.Tests.{ne-eqb}
 use Rattle.ground.proofs.Bools.{bool-cases}
+use Rattle.ground.proofs.Outcome.{any-two}
 use Rattle.ground.proofs.Tables.{table-rule}
 use Rattle.kinds.specs.Kinds.{Kind, noKind, kindAt}
 use Rattle.kinds.proofs.Widths.{picked}
@@ -49,3 +50,9 @@ unnamed n h = rw (ne-eqb n 1 h) (sym (bool-cases (eqb n 2) (λ e. rw e) (λ e. r
     (picked Unnamed (eqb n 3) _ _ refl (picked Unnamed (eqb n 4) _ _ refl (picked Unnamed (eqb n 5) _ _ refl (picked Unnamed (eqb n 6) _ _ refl
     (picked Unnamed (eqb n 7) _ _ refl (picked Unnamed (eqb n 8) _ _ refl (picked Unnamed (eqb n 9) _ _ refl (picked Unnamed (eqb n 10) _ _ refl
     (picked Unnamed (eqb n 11) _ _ refl (picked Unnamed (eqb n 12) _ _ refl refl)))))))))))))
+
+pub one-count : (n o p : ℕ) → o ≡ kindAt n .operands → p ≡ kindAt n .operands → o ≡ p
+one-count = any-two (λ n. kindAt n .operands)
+
+pub one-named : (n : ℕ) (o p : Bool) → o ≡ kindAt n .named → p ≡ kindAt n .named → o ≡ p
+one-named = any-two (λ n. kindAt n .named)

@@ -1,18 +1,13 @@
 use borrow.Author.Tests.{eq-eqb}
 use Rattle.kinds.specs.Kinds.{kindAt}
 use Rattle.kinds.proofs.Numbers.{unnamed}
-use borrow.Author.Needs.{needs}
 use Rattle.kinds.proofs.has_name.Statement.{statement}
 use Rattle.kinds.proofs.has_name.Tie as tie
-use Rattle.kinds.proofs.has_name.Reads as reads
-use Rattle.kinds.proofs.has_name.Lts as lts
 
--- src/lib.rt:25:9
 returns : tie.Need-returns
 unfolding kindAt
 returns c = rw (eq-eqb _ 1 (c .if1 .taken))
 
--- src/lib.rt:21:1
 returns-2 : tie.Need-returns-2
 returns-2 c = unnamed (c .before .args .kind) (c .if1 .left)
 

@@ -3,18 +3,13 @@ use Rattle.kinds.proofs.Numbers.{operands-at, no-kind}
 use borrow.Author.Needs.{needs}
 use Rattle.kinds.proofs.operands_of.Statement.{statement}
 use Rattle.kinds.proofs.operands_of.Tie as tie
-use Rattle.kinds.proofs.operands_of.Reads as reads
-use Rattle.kinds.proofs.operands_of.Lts as lts
 
--- src/lib.rt:15:16
 array-read-result : tie.Need-array-read-result
 array-read-result c = search needs
 
--- src/lib.rt:15:9
 returns : tie.Need-returns
 returns c = operands-at (c .before .args .kind) (c .if1 .taken)
 
--- src/lib.rt:10:1
 returns-2 : tie.Need-returns-2
 returns-2 c = rw (no-kind (c .before .args .kind) (omega arith))
 

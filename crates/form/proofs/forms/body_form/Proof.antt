@@ -2,80 +2,56 @@ use Rattle.form.specs.Forms.{bodyForm}
 use borrow.Author.Needs.{needs}
 use Rattle.form.proofs.forms.body_form.Statement.{statement}
 use Rattle.form.proofs.forms.body_form.Tie as tie
-use Rattle.form.proofs.forms.body_form.Reads as reads
-use Rattle.form.proofs.forms.body_form.Lts as lts
-use Rattle.form.proofs.forms.cell_form.Reads as cell-form-reads
-use Rattle.form.proofs.forms.io_form.Reads as io-form-reads
-use Rattle.form.proofs.forms.mark_at.Reads as mark-at-reads
-use Rattle.form.proofs.forms.meta_form.Reads as meta-form-reads
-use Rattle.form.proofs.words.is_sort.Reads as is-sort-reads
-use Rattle.lexis.proofs.Reader.next_with.Reads as next-with-reads
 
--- src/forms.rt:501:11
 mark-at-requires : tie.Need-mark-at-requires
 mark-at-requires c κs = c .before .pre .0
 
--- src/forms.rt:502:23
 enum-known-g : tie.Need-enum-known-g
 enum-known-g c = search needs
 
--- src/forms.rt:503:23
 enum-known-r1 : tie.Need-enum-known-r1
 enum-known-r1 c = search needs
 
--- src/forms.rt:503:36
 next-with-requires : tie.Need-next-with-requires
 next-with-requires c κs = c .before .before .before .before .before .pre .0
 
--- src/forms.rt:504:27
 enum-known-g-2 : tie.Need-enum-known-g-2
 enum-known-g-2 c = search needs
 
--- src/forms.rt:505:24
 enum-known-word : tie.Need-enum-known-word
 enum-known-word c = search needs
 
--- src/forms.rt:506:20
 is-sort-requires : tie.Need-is-sort-requires
 is-sort-requires c κs = search needs
 
--- src/forms.rt:507:21
 meta-form-requires : tie.Need-meta-form-requires
 meta-form-requires c κs = c .before .before .before .before .before .before .before .before .before .before .before .pre
 
--- src/forms.rt:507:21
 returns : tie.Need-returns
 unfolding bodyForm
 returns c = rw (← c .before .before .before .before .before .before .before .before .before .before .mark-at .ensures, c .before .before .before .before .before .before .before .before .r1 .given .1, ← c .before .before .before .before .before .before .next-with .ensures, c .before .before .before .before .word .given .1, ← c .before .before .is-sort .ensures, c .before .if1 .taken) (c .meta-form .ensures)
 
--- src/forms.rt:509:20
 is-sort-requires-2 : tie.Need-is-sort-requires-2
 is-sort-requires-2 c κs = search needs
 
--- src/forms.rt:510:21
 io-form-requires : tie.Need-io-form-requires
 io-form-requires c κs = c .before .before .before .before .before .before .before .before .before .before .before .before .before .pre .0
 
--- src/forms.rt:510:21
 returns-2 : tie.Need-returns-2
 unfolding bodyForm
 returns-2 c = rw (← c .before .before .before .before .before .before .before .before .before .before .before .before .mark-at .ensures, c .before .before .before .before .before .before .before .before .before .before .r1 .given .1, ← c .before .before .before .before .before .before .before .before .next-with .ensures, c .before .before .before .before .before .before .word .given .1, ← c .before .before .before .before .is-sort .ensures, c .before .before .before .if1 .left, ← c .before .before .is-sort2 .ensures, c .before .if2 .taken) (c .io-form .ensures)
 
--- src/forms.rt:512:17
 cell-form-requires : tie.Need-cell-form-requires
 cell-form-requires c κs = c .before .before .before .before .before .before .before .before .before .before .before .before .before .pre
 
--- src/forms.rt:497:1
 returns-3 : tie.Need-returns-3
 unfolding bodyForm
 returns-3 c = rw (← c .before .before .before .mark-at .ensures, c .before .g .given .1)
 
--- src/forms.rt:497:1
 returns-4 : tie.Need-returns-4
 unfolding bodyForm
 returns-4 c = rw (← c .before .before .before .before .before .before .before .mark-at .ensures, c .before .before .before .before .before .r1 .given .1, ← c .before .before .before .next-with .ensures, c .before .g2 .given .1)
 
--- src/forms.rt:497:1
 returns-5 : tie.Need-returns-5
 unfolding bodyForm
 returns-5 c = rw (← c .before .before .before .before .before .before .before .before .before .before .before .before .mark-at .ensures, c .before .before .before .before .before .before .before .before .before .before .r1 .given .1, ← c .before .before .before .before .before .before .before .before .next-with .ensures, c .before .before .before .before .before .before .word .given .1, ← c .before .before .before .before .is-sort .ensures, c .before .before .before .if1 .left, ← c .before .before .is-sort2 .ensures, c .before .if2 .left) (c .cell-form .ensures)

@@ -1,27 +1,19 @@
 use borrow.Author.Needs.{needs}
 use Rattle.form.proofs.forms.ended.Statement.{statement}
 use Rattle.form.proofs.forms.ended.Tie as tie
-use Rattle.form.proofs.forms.ended.Reads as reads
-use Rattle.form.proofs.forms.ended.Lts as lts
-use Rattle.form.proofs.forms.sort_at.Reads as sort-at-reads
 
--- src/forms.rt:119:11
 sort-at-requires : tie.Need-sort-at-requires
 sort-at-requires c κs = c .before .before .pre
 
--- src/forms.rt:120:23
 enum-known-g : tie.Need-enum-known-g
 enum-known-g c = search needs
 
--- src/forms.rt:121:23
 enum-known-r : tie.Need-enum-known-r
 enum-known-r c = search needs
 
--- src/forms.rt:113:1
 returns : tie.Need-returns
 returns c = rw (← c .before .before .before .sort-at .ensures, c .before .g .given .1)
 
--- src/forms.rt:113:1
 returns-2 : tie.Need-returns-2
 returns-2 c = rw (← c .before .before .before .sort-at .ensures, c .before .r .given .1)
 

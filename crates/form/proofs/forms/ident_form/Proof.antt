@@ -3,78 +3,55 @@ use Rattle.form.specs.Forms.{identForm}
 use borrow.Author.Needs.{needs}
 use Rattle.form.proofs.forms.ident_form.Statement.{statement}
 use Rattle.form.proofs.forms.ident_form.Tie as tie
-use Rattle.form.proofs.forms.ident_form.Reads as reads
-use Rattle.form.proofs.forms.ident_form.Lts as lts
-use Rattle.form.proofs.forms.ended.Reads as ended-reads
-use Rattle.form.proofs.forms.link_at.Reads as link-at-reads
-use Rattle.form.proofs.forms.sort_at.Reads as sort-at-reads
-use Rattle.form.proofs.forms.word_at.Reads as word-at-reads
-use Rattle.form.proofs.parts.str_of.Reads as str-of-reads
 
--- src/forms.rt:274:11
 sort-at-requires : tie.Need-sort-at-requires
 sort-at-requires c κs = c .before .pre
 
--- src/forms.rt:275:23
 enum-known-g : tie.Need-enum-known-g
 enum-known-g c = search needs
 
--- src/forms.rt:276:20
 enum-known-n : tie.Need-enum-known-n
 enum-known-n c = search needs
 
--- src/forms.rt:276:53
 slice-aggregate-word-at : tie.Need-slice-aggregate-word-at
 slice-aggregate-word-at c = search needs
 
--- src/forms.rt:276:36
 word-at-requires : tie.Need-word-at-requires
 word-at-requires c κs = c .before .before .before .before .before .before .pre
 
--- src/forms.rt:277:27
 enum-known-g-2 : tie.Need-enum-known-g-2
 enum-known-g-2 c = search needs
 
--- src/forms.rt:278:27
 enum-known-r2 : tie.Need-enum-known-r2
 enum-known-r2 c = search needs
 
--- src/forms.rt:278:40
 link-at-requires : tie.Need-link-at-requires
 link-at-requires c κs = c .before .before .before .before .before .before .before .before .before .before .pre
 
--- src/forms.rt:279:33
 enum-known-g-3 : tie.Need-enum-known-g-3
 enum-known-g-3 c = search needs
 
--- src/forms.rt:280:30
 enum-known-inside : tie.Need-enum-known-inside
 enum-known-inside c = search needs
 
--- src/forms.rt:281:55
 str-of-requires : tie.Need-str-of-requires
 str-of-requires c κs = search needs
 
--- src/forms.rt:281:21
 ended-requires : tie.Need-ended-requires
 ended-requires c κs = c .before .before .before .before .before .before .before .before .before .before .before .before .before .before .before .pre
 
--- src/forms.rt:270:1
 returns : tie.Need-returns
 unfolding identForm bytes
 returns c = rw (← c .before .before .before .sort-at .ensures, c .before .g .given .1)
 
--- src/forms.rt:270:1
 returns-2 : tie.Need-returns-2
 unfolding identForm bytes
 returns-2 c = rw (← c .before .before .before .before .before .before .before .before .sort-at .ensures, c .before .before .before .before .before .before .n .given .1, ← c .before .before .before .word-at .ensures, c .before .g2 .given .1)
 
--- src/forms.rt:270:1
 returns-3 : tie.Need-returns-3
 unfolding identForm bytes
 returns-3 c = rw (← c .before .before .before .before .before .before .before .before .before .before .before .before .sort-at .ensures, c .before .before .before .before .before .before .before .before .before .before .n .given .1, ← c .before .before .before .before .before .before .before .word-at .ensures, c .before .before .before .before .before .r2 .given .1, ← c .before .before .before .link-at .ensures, c .before .g3 .given .1)
 
--- src/forms.rt:270:1
 returns-4 : tie.Need-returns-4
 unfolding identForm bytes
 returns-4 c = rw (← c .before .before .before .before .before .before .before .before .before .before .before .before .before .before .sort-at .ensures, c .before .before .before .before .before .before .before .before .before .before .before .before .n .given .1, ← c .before .before .before .before .before .before .before .before .before .word-at .ensures, c .before .before .before .before .before .before .before .r2 .given .1, ← c .before .before .before .before .before .link-at .ensures, c .before .before .before .inside .given .1, ← c .before .str-of .ensures) (c .ended .ensures)

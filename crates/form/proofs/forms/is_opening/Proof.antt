@@ -1,32 +1,22 @@
 use borrow.Author.Needs.{needs}
 use Rattle.form.proofs.forms.is_opening.Statement.{statement}
 use Rattle.form.proofs.forms.is_opening.Tie as tie
-use Rattle.form.proofs.forms.is_opening.Reads as reads
-use Rattle.form.proofs.forms.is_opening.Lts as lts
-use Rattle.form.proofs.forms.opens.Reads as opens-reads
-use Rattle.form.proofs.words.is_sort.Reads as is-sort-reads
 
--- src/forms.rt:522:8
 is-sort-requires : tie.Need-is-sort-requires
 is-sort-requires c κs = search needs
 
--- src/forms.rt:523:9
 returns : tie.Need-returns
 returns c = rw (← c .before .is-sort .ensures, c .if1 .taken)
 
--- src/forms.rt:525:8
 opens-requires : tie.Need-opens-requires
 opens-requires c κs = search needs
 
--- src/forms.rt:526:9
 returns-2 : tie.Need-returns-2
 returns-2 c = rw (← c .before .before .before .is-sort .ensures, c .before .before .if1 .left, ← c .before .opens .ensures, c .if2 .taken)
 
--- src/forms.rt:528:5
 opens-requires-2 : tie.Need-opens-requires-2
 opens-requires-2 c κs = search needs
 
--- src/forms.rt:519:1
 returns-3 : tie.Need-returns-3
 returns-3 c = rw (← c .before .before .before .before .is-sort .ensures, c .before .before .before .if1 .left, ← c .before .before .opens .ensures, c .before .if2 .left) (c .opens2 .ensures)
 

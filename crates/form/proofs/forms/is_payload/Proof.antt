@@ -1,32 +1,22 @@
 use borrow.Author.Needs.{needs}
 use Rattle.form.proofs.forms.is_payload.Statement.{statement}
 use Rattle.form.proofs.forms.is_payload.Tie as tie
-use Rattle.form.proofs.forms.is_payload.Reads as reads
-use Rattle.form.proofs.forms.is_payload.Lts as lts
-use Rattle.form.proofs.forms.is_alone.Reads as is-alone-reads
-use Rattle.form.proofs.words.is_sort.Reads as is-sort-reads
 
--- src/forms.rt:302:8
 is-alone-requires : tie.Need-is-alone-requires
 is-alone-requires c κs = search needs
 
--- src/forms.rt:303:9
 returns : tie.Need-returns
 returns c = rw (← c .before .is-alone .ensures, c .if1 .taken)
 
--- src/forms.rt:305:8
 is-sort-requires : tie.Need-is-sort-requires
 is-sort-requires c κs = search needs
 
--- src/forms.rt:306:9
 returns-2 : tie.Need-returns-2
 returns-2 c = rw (← c .before .before .before .is-alone .ensures, c .before .before .if1 .left, ← c .before .is-sort .ensures, c .if2 .taken)
 
--- src/forms.rt:308:5
 is-sort-requires-2 : tie.Need-is-sort-requires-2
 is-sort-requires-2 c κs = search needs
 
--- src/forms.rt:299:1
 returns-3 : tie.Need-returns-3
 returns-3 c = rw (← c .before .before .before .before .is-alone .ensures, c .before .before .before .if1 .left, ← c .before .before .is-sort .ensures, c .before .if2 .left) (c .is-sort2 .ensures)
 

@@ -1,45 +1,31 @@
 use borrow.Author.Needs.{needs}
 use Rattle.form.proofs.forms.label_at.Statement.{statement}
 use Rattle.form.proofs.forms.label_at.Tie as tie
-use Rattle.form.proofs.forms.label_at.Reads as reads
-use Rattle.form.proofs.forms.label_at.Lts as lts
-use Rattle.form.proofs.forms.allowed.Reads as allowed-reads
-use Rattle.form.proofs.words.is_sort.Reads as is-sort-reads
-use Rattle.lexis.proofs.Reader.next_with.Reads as next-with-reads
 
--- src/forms.rt:231:11
 next-with-requires : tie.Need-next-with-requires
 next-with-requires c κs = c .before .pre
 
--- src/forms.rt:232:23
 enum-known-g : tie.Need-enum-known-g
 enum-known-g c = search needs
 
--- src/forms.rt:233:20
 enum-known-token : tie.Need-enum-known-token
 enum-known-token c = search needs
 
--- src/forms.rt:234:16
 is-sort-requires : tie.Need-is-sort-requires
 is-sort-requires c κs = search needs
 
--- src/forms.rt:235:17
 returns : tie.Need-returns
 returns c = rw (← c .before .before .before .before .before .next-with .ensures, c .before .before .before .token .given .1, ← c .before .is-sort .ensures, c .if1 .taken)
 
--- src/forms.rt:237:21
 is-sort-requires-2 : tie.Need-is-sort-requires-2
 is-sort-requires-2 c κs = search needs
 
--- src/forms.rt:237:13
 allowed-requires : tie.Need-allowed-requires
 allowed-requires c κs = search needs
 
--- src/forms.rt:227:1
 returns-2 : tie.Need-returns-2
 returns-2 c = rw (← c .before .before .before .next-with .ensures, c .before .g .given .1)
 
--- src/forms.rt:227:1
 returns-3 : tie.Need-returns-3
 returns-3 c = rw (← c .before .before .before .before .before .before .before .next-with .ensures, c .before .before .before .before .before .token .given .1, ← c .before .before .before .is-sort .ensures, c .before .before .if1 .left, ← c .before .is-sort2 .ensures) (c .allowed .ensures)
 

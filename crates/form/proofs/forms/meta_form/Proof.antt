@@ -3,103 +3,72 @@ use Rattle.form.specs.Forms.{metaForm}
 use borrow.Author.Needs.{needs}
 use Rattle.form.proofs.forms.meta_form.Statement.{statement}
 use Rattle.form.proofs.forms.meta_form.Tie as tie
-use Rattle.form.proofs.forms.meta_form.Reads as reads
-use Rattle.form.proofs.forms.meta_form.Lts as lts
-use Rattle.form.proofs.forms.attr_form.Reads as attr-form-reads
-use Rattle.form.proofs.forms.ident_form.Reads as ident-form-reads
-use Rattle.form.proofs.forms.no_keyword.Reads as no-keyword-reads
-use Rattle.form.proofs.forms.scope_form.Reads as scope-form-reads
-use Rattle.form.proofs.forms.set_form.Reads as set-form-reads
-use Rattle.form.proofs.forms.source_form.Reads as source-form-reads
-use Rattle.form.proofs.words.is_mark.Reads as is-mark-reads
-use Rattle.form.proofs.words.is_word.Reads as is-word-reads
 
--- src/forms.rt:364:8
 is-mark-requires : tie.Need-is-mark-requires
 is-mark-requires c κs = search needs
 
--- src/forms.rt:365:9
 set-form-requires : tie.Need-set-form-requires
 set-form-requires c κs = c .before .before .before .pre
 
--- src/forms.rt:365:9
 returns : tie.Need-returns
 unfolding metaForm bytes
 returns c = rw (← c .before .before .is-mark .ensures, c .before .if1 .taken) (c .set-form .ensures)
 
--- src/forms.rt:367:28
 slice-aggregate-is-word : tie.Need-slice-aggregate-is-word
 slice-aggregate-is-word c = search needs
 
--- src/forms.rt:367:8
 is-word-requires : tie.Need-is-word-requires
 is-word-requires c κs = search needs
 
--- src/forms.rt:368:9
 source-form-requires : tie.Need-source-form-requires
 source-form-requires c κs = c .before .before .before .before .before .before .pre .0
 
--- src/forms.rt:368:9
 returns-2 : tie.Need-returns-2
 unfolding metaForm bytes
 returns-2 c = rw (← c .before .before .before .before .before .is-mark .ensures, c .before .before .before .before .if1 .left, ← c .before .before .is-word .ensures, c .before .if2 .taken) (c .source-form .ensures)
 
--- src/forms.rt:370:28
 slice-aggregate-is-word-2 : tie.Need-slice-aggregate-is-word-2
 slice-aggregate-is-word-2 c = search needs
 
--- src/forms.rt:370:8
 is-word-requires-2 : tie.Need-is-word-requires-2
 is-word-requires-2 c κs = search needs
 
--- src/forms.rt:371:9
 scope-form-requires : tie.Need-scope-form-requires
 scope-form-requires c κs = c .before .before .before .before .before .before .before .before .before .pre .0
 
--- src/forms.rt:371:9
 returns-3 : tie.Need-returns-3
 unfolding metaForm bytes
 returns-3 c = rw (← c .before .before .before .before .before .before .before .before .is-mark .ensures, c .before .before .before .before .before .before .before .if1 .left, ← c .before .before .before .before .before .is-word .ensures, c .before .before .before .before .if2 .left, ← c .before .before .is-word2 .ensures, c .before .if3 .taken) (c .scope-form .ensures)
 
--- src/forms.rt:373:28
 slice-aggregate-is-word-3 : tie.Need-slice-aggregate-is-word-3
 slice-aggregate-is-word-3 c = search needs
 
--- src/forms.rt:373:8
 is-word-requires-3 : tie.Need-is-word-requires-3
 is-word-requires-3 c κs = search needs
 
--- src/forms.rt:374:9
 ident-form-requires : tie.Need-ident-form-requires
 ident-form-requires c κs = c .before .before .before .before .before .before .before .before .before .before .before .before .pre .0
 
--- src/forms.rt:374:9
 returns-4 : tie.Need-returns-4
 unfolding metaForm bytes
 returns-4 c = rw (← c .before .before .before .before .before .before .before .before .before .before .before .is-mark .ensures, c .before .before .before .before .before .before .before .before .before .before .if1 .left, ← c .before .before .before .before .before .before .before .before .is-word .ensures, c .before .before .before .before .before .before .before .if2 .left, ← c .before .before .before .before .before .is-word2 .ensures, c .before .before .before .before .if3 .left, ← c .before .before .is-word3 .ensures, c .before .if4 .taken) (c .ident-form .ensures)
 
--- src/forms.rt:376:28
 slice-aggregate-is-word-4 : tie.Need-slice-aggregate-is-word-4
 slice-aggregate-is-word-4 c = search needs
 
--- src/forms.rt:376:8
 is-word-requires-4 : tie.Need-is-word-requires-4
 is-word-requires-4 c κs = search needs
 
--- src/forms.rt:377:9
 attr-form-requires : tie.Need-attr-form-requires
 attr-form-requires c κs = c .before .before .before .before .before .before .before .before .before .before .before .before .before .before .before .pre .0
 
--- src/forms.rt:377:9
 returns-5 : tie.Need-returns-5
 unfolding metaForm bytes
 returns-5 c = rw (← c .before .before .before .before .before .before .before .before .before .before .before .before .before .before .is-mark .ensures, c .before .before .before .before .before .before .before .before .before .before .before .before .before .if1 .left, ← c .before .before .before .before .before .before .before .before .before .before .before .is-word .ensures, c .before .before .before .before .before .before .before .before .before .before .if2 .left, ← c .before .before .before .before .before .before .before .before .is-word2 .ensures, c .before .before .before .before .before .before .before .if3 .left, ← c .before .before .before .before .before .is-word3 .ensures, c .before .before .before .before .if4 .left, ← c .before .before .is-word4 .ensures, c .before .if5 .taken) (c .attr-form .ensures)
 
--- src/forms.rt:379:5
 no-keyword-requires : tie.Need-no-keyword-requires
 no-keyword-requires c κs = search needs
 
--- src/forms.rt:360:1
 returns-6 : tie.Need-returns-6
 unfolding metaForm bytes
 returns-6 c = rw (← c .before .before .before .before .before .before .before .before .before .before .before .before .before .before .is-mark .ensures, c .before .before .before .before .before .before .before .before .before .before .before .before .before .if1 .left, ← c .before .before .before .before .before .before .before .before .before .before .before .is-word .ensures, c .before .before .before .before .before .before .before .before .before .before .if2 .left, ← c .before .before .before .before .before .before .before .before .is-word2 .ensures, c .before .before .before .before .before .before .before .if3 .left, ← c .before .before .before .before .before .is-word3 .ensures, c .before .before .before .before .if4 .left, ← c .before .before .is-word4 .ensures, c .before .if5 .left) (c .no-keyword .ensures)

@@ -2,48 +2,33 @@ use Rattle.form.specs.Forms.{metaIf}
 use borrow.Author.Needs.{needs}
 use Rattle.form.proofs.forms.meta_if.Statement.{statement}
 use Rattle.form.proofs.forms.meta_if.Tie as tie
-use Rattle.form.proofs.forms.meta_if.Reads as reads
-use Rattle.form.proofs.forms.meta_if.Lts as lts
-use Rattle.form.proofs.forms.no_ref.Reads as no-ref-reads
-use Rattle.form.proofs.parts.ref_of.Reads as ref-of-reads
-use Rattle.form.proofs.words.is_sort.Reads as is-sort-reads
-use Rattle.lexis.proofs.Reader.next_with.Reads as next-with-reads
 
--- src/forms.rt:419:11
 next-with-requires : tie.Need-next-with-requires
 next-with-requires c κs = c .before .pre
 
--- src/forms.rt:420:23
 enum-known-g : tie.Need-enum-known-g
 enum-known-g c = search needs
 
--- src/forms.rt:421:20
 enum-known-token : tie.Need-enum-known-token
 enum-known-token c = search needs
 
--- src/forms.rt:422:16
 is-sort-requires : tie.Need-is-sort-requires
 is-sort-requires c κs = search needs
 
--- src/forms.rt:423:37
 ref-of-requires : tie.Need-ref-of-requires
 ref-of-requires c κs = search needs
 
--- src/forms.rt:423:17
 returns : tie.Need-returns
 unfolding metaIf
 returns c = rw (← c .before .before .before .before .before .before .next-with .ensures, c .before .before .before .before .token .given .1, ← c .before .before .is-sort .ensures, c .before .if1 .taken, ← c .ref-of .ensures)
 
--- src/forms.rt:425:26
 no-ref-requires : tie.Need-no-ref-requires
 no-ref-requires c κs = search needs
 
--- src/forms.rt:415:1
 returns-2 : tie.Need-returns-2
 unfolding metaIf
 returns-2 c = rw (← c .before .before .before .next-with .ensures, c .before .g .given .1)
 
--- src/forms.rt:415:1
 returns-3 : tie.Need-returns-3
 unfolding metaIf
 returns-3 c = rw (← c .before .before .before .before .before .before .next-with .ensures, c .before .before .before .before .token .given .1, ← c .before .before .is-sort .ensures, c .before .if1 .left, ← c .no-ref .ensures)

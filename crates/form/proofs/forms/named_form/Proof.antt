@@ -2,38 +2,26 @@ use Rattle.form.specs.Forms.{namedForm}
 use borrow.Author.Needs.{needs}
 use Rattle.form.proofs.forms.named_form.Statement.{statement}
 use Rattle.form.proofs.forms.named_form.Tie as tie
-use Rattle.form.proofs.forms.named_form.Reads as reads
-use Rattle.form.proofs.forms.named_form.Lts as lts
-use Rattle.form.proofs.forms.sort_at.Reads as sort-at-reads
-use Rattle.form.proofs.forms.wiring_form.Reads as wiring-form-reads
-use Rattle.form.proofs.parts.str_of.Reads as str-of-reads
 
--- src/forms.rt:466:11
 sort-at-requires : tie.Need-sort-at-requires
 sort-at-requires c κs = c .before .pre .0
 
--- src/forms.rt:467:23
 enum-known-g : tie.Need-enum-known-g
 enum-known-g c = search needs
 
--- src/forms.rt:468:20
 enum-known-n : tie.Need-enum-known-n
 enum-known-n c = search needs
 
--- src/forms.rt:468:63
 str-of-requires : tie.Need-str-of-requires
 str-of-requires c κs = search needs
 
--- src/forms.rt:468:29
 wiring-form-requires : tie.Need-wiring-form-requires
 wiring-form-requires c κs = c .before .before .before .before .before .before .pre
 
--- src/forms.rt:462:1
 returns : tie.Need-returns
 unfolding namedForm
 returns c = rw (← c .before .before .before .sort-at .ensures, c .before .g .given .1)
 
--- src/forms.rt:462:1
 returns-2 : tie.Need-returns-2
 unfolding namedForm
 returns-2 c = rw (← c .before .before .before .before .before .sort-at .ensures, c .before .before .before .n .given .1, ← c .before .str-of .ensures) (c .wiring-form .ensures)

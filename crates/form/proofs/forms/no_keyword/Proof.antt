@@ -1,19 +1,13 @@
 use borrow.Author.Needs.{needs}
 use Rattle.form.proofs.forms.no_keyword.Statement.{statement}
 use Rattle.form.proofs.forms.no_keyword.Tie as tie
-use Rattle.form.proofs.forms.no_keyword.Reads as reads
-use Rattle.form.proofs.forms.no_keyword.Lts as lts
-use Rattle.form.proofs.words.is_sort.Reads as is-sort-reads
 
--- src/forms.rt:354:8
 is-sort-requires : tie.Need-is-sort-requires
 is-sort-requires c κs = search needs
 
--- src/forms.rt:355:9
 returns : tie.Need-returns
 returns c = rw (← c .before .is-sort .ensures, c .if1 .taken)
 
--- src/forms.rt:350:1
 returns-2 : tie.Need-returns-2
 returns-2 c = rw (← c .before .is-sort .ensures, c .if1 .left)
 

@@ -2,34 +2,24 @@ use Rattle.ground.specs.Text.{bytes}
 use borrow.Author.Needs.{needs}
 use Rattle.form.proofs.forms.no_opening.Statement.{statement}
 use Rattle.form.proofs.forms.no_opening.Tie as tie
-use Rattle.form.proofs.forms.no_opening.Reads as reads
-use Rattle.form.proofs.forms.no_opening.Lts as lts
-use Rattle.form.proofs.words.is_sort.Reads as is-sort-reads
-use Rattle.form.proofs.words.is_word.Reads as is-word-reads
 
--- src/forms.rt:535:8
 is-sort-requires : tie.Need-is-sort-requires
 is-sort-requires c κs = search needs
 
--- src/forms.rt:536:9
 returns : tie.Need-returns
 unfolding bytes
 returns c = rw (← c .before .is-sort .ensures, c .if1 .taken)
 
--- src/forms.rt:538:29
 slice-aggregate-is-word : tie.Need-slice-aggregate-is-word
 slice-aggregate-is-word c = search needs
 
--- src/forms.rt:538:8
 is-word-requires : tie.Need-is-word-requires
 is-word-requires c κs = search needs
 
--- src/forms.rt:539:9
 returns-2 : tie.Need-returns-2
 unfolding bytes
 returns-2 c = rw (← c .before .before .before .before .is-sort .ensures, c .before .before .before .if1 .left, ← c .before .is-word .ensures, c .if2 .taken)
 
--- src/forms.rt:532:1
 returns-3 : tie.Need-returns-3
 unfolding bytes
 returns-3 c = rw (← c .before .before .before .before .is-sort .ensures, c .before .before .before .if1 .left, ← c .before .is-word .ensures, c .if2 .left)

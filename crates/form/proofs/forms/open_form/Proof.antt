@@ -2,40 +2,27 @@ use Rattle.form.specs.Forms.{openForm}
 use borrow.Author.Needs.{needs}
 use Rattle.form.proofs.forms.open_form.Statement.{statement}
 use Rattle.form.proofs.forms.open_form.Tie as tie
-use Rattle.form.proofs.forms.open_form.Reads as reads
-use Rattle.form.proofs.forms.open_form.Lts as lts
-use Rattle.form.proofs.forms.body_form.Reads as body-form-reads
-use Rattle.form.proofs.forms.is_opening.Reads as is-opening-reads
-use Rattle.form.proofs.forms.no_opening.Reads as no-opening-reads
-use Rattle.form.proofs.words.is_sort.Reads as is-sort-reads
 
--- src/forms.rt:548:8
 is-sort-requires : tie.Need-is-sort-requires
 is-sort-requires c κs = search needs
 
--- src/forms.rt:549:9
 returns : tie.Need-returns
 unfolding openForm
 returns c = rw (← c .before .is-sort .ensures, c .if1 .taken)
 
--- src/forms.rt:551:8
 is-opening-requires : tie.Need-is-opening-requires
 is-opening-requires c κs = search needs
 
--- src/forms.rt:552:9
 body-form-requires : tie.Need-body-form-requires
 body-form-requires c κs = c .before .before .before .before .before .pre
 
--- src/forms.rt:552:9
 returns-2 : tie.Need-returns-2
 unfolding openForm
 returns-2 c = rw (← c .before .before .before .before .is-sort .ensures, c .before .before .before .if1 .left, ← c .before .before .is-opening .ensures, c .before .if2 .taken) (c .body-form .ensures)
 
--- src/forms.rt:555:9
 no-opening-requires : tie.Need-no-opening-requires
 no-opening-requires c κs = search needs
 
--- src/forms.rt:544:1
 returns-3 : tie.Need-returns-3
 unfolding openForm
 returns-3 c = rw (← c .before .before .before .before .before .is-sort .ensures, c .before .before .before .before .if1 .left, ← c .before .before .before .is-opening .ensures, c .before .before .if2 .left, ← c .no-opening .ensures)

@@ -2,48 +2,33 @@ use Rattle.form.specs.Forms.{optionAt}
 use borrow.Author.Needs.{needs}
 use Rattle.form.proofs.forms.option_at.Statement.{statement}
 use Rattle.form.proofs.forms.option_at.Tie as tie
-use Rattle.form.proofs.forms.option_at.Reads as reads
-use Rattle.form.proofs.forms.option_at.Lts as lts
-use Rattle.form.proofs.forms.link_at.Reads as link-at-reads
-use Rattle.form.proofs.forms.no_ref.Reads as no-ref-reads
-use Rattle.form.proofs.words.is_word.Reads as is-word-reads
-use Rattle.lexis.proofs.Reader.next_with.Reads as next-with-reads
 
--- src/forms.rt:216:11
 next-with-requires : tie.Need-next-with-requires
 next-with-requires c κs = c .before .before .pre
 
--- src/forms.rt:217:23
 enum-known-g : tie.Need-enum-known-g
 enum-known-g c = search needs
 
--- src/forms.rt:218:20
 enum-known-token : tie.Need-enum-known-token
 enum-known-token c = search needs
 
--- src/forms.rt:219:16
 is-word-requires : tie.Need-is-word-requires
 is-word-requires c κs = search needs
 
--- src/forms.rt:220:17
 link-at-requires : tie.Need-link-at-requires
 link-at-requires c κs = c .before .before .before .before .before .before .before .before .pre
 
--- src/forms.rt:220:17
 returns : tie.Need-returns
 unfolding optionAt
 returns c = rw (← c .before .before .before .before .before .before .next-with .ensures, c .before .before .before .before .token .given .1, ← c .before .before .is-word .ensures, c .before .if1 .taken) (c .link-at .ensures)
 
--- src/forms.rt:222:26
 no-ref-requires : tie.Need-no-ref-requires
 no-ref-requires c κs = search needs
 
--- src/forms.rt:212:1
 returns-2 : tie.Need-returns-2
 unfolding optionAt
 returns-2 c = rw (← c .before .before .before .next-with .ensures, c .before .g .given .1)
 
--- src/forms.rt:212:1
 returns-3 : tie.Need-returns-3
 unfolding optionAt
 returns-3 c = rw (← c .before .before .before .before .before .before .next-with .ensures, c .before .before .before .before .token .given .1, ← c .before .before .is-word .ensures, c .before .if1 .left, ← c .no-ref .ensures)

@@ -1,36 +1,25 @@
 use borrow.Author.Needs.{needs}
 use Rattle.form.proofs.forms.payload_of.Statement.{statement}
 use Rattle.form.proofs.forms.payload_of.Tie as tie
-use Rattle.form.proofs.forms.payload_of.Reads as reads
-use Rattle.form.proofs.forms.payload_of.Lts as lts
-use Rattle.form.proofs.parts.str_of.Reads as str-of-reads
-use Rattle.form.proofs.words.is_sort.Reads as is-sort-reads
 
--- src/forms.rt:314:8
 is-sort-requires : tie.Need-is-sort-requires
 is-sort-requires c κs = search needs
 
--- src/forms.rt:315:30
 str-of-requires : tie.Need-str-of-requires
 str-of-requires c κs = search needs
 
--- src/forms.rt:315:9
 returns : tie.Need-returns
 returns c = rw (← c .before .before .is-sort .ensures, c .before .if1 .taken, ← c .str-of .ensures)
 
--- src/forms.rt:317:8
 is-sort-requires-2 : tie.Need-is-sort-requires-2
 is-sort-requires-2 c κs = search needs
 
--- src/forms.rt:318:9
 returns-2 : tie.Need-returns-2
 returns-2 c = rw (← c .before .before .before .is-sort .ensures, c .before .before .if1 .left, ← c .before .is-sort2 .ensures, c .if2 .taken)
 
--- src/forms.rt:320:19
 str-of-requires-2 : tie.Need-str-of-requires-2
 str-of-requires-2 c κs = search needs
 
--- src/forms.rt:311:1
 returns-3 : tie.Need-returns-3
 returns-3 c = rw (← c .before .before .before .before .is-sort .ensures, c .before .before .before .if1 .left, ← c .before .before .is-sort2 .ensures, c .before .if2 .left, ← c .str-of2 .ensures)
 

@@ -3,81 +3,58 @@ use Rattle.form.specs.Forms.{scopeForm}
 use borrow.Author.Needs.{needs}
 use Rattle.form.proofs.forms.scope_form.Statement.{statement}
 use Rattle.form.proofs.forms.scope_form.Tie as tie
-use Rattle.form.proofs.forms.scope_form.Reads as reads
-use Rattle.form.proofs.forms.scope_form.Lts as lts
-use Rattle.form.proofs.forms.ended.Reads as ended-reads
-use Rattle.form.proofs.forms.label_at.Reads as label-at-reads
-use Rattle.form.proofs.forms.label_of.Reads as label-of-reads
-use Rattle.form.proofs.forms.option_at.Reads as option-at-reads
 
--- src/forms.rt:255:11
 label-at-requires : tie.Need-label-at-requires
 label-at-requires c κs = c .before .pre
 
--- src/forms.rt:256:23
 enum-known-g : tie.Need-enum-known-g
 enum-known-g c = search needs
 
--- src/forms.rt:257:20
 enum-known-n : tie.Need-enum-known-n
 enum-known-n c = search needs
 
--- src/forms.rt:257:55
 slice-aggregate-option-at : tie.Need-slice-aggregate-option-at
 slice-aggregate-option-at c = search needs
 
--- src/forms.rt:257:36
 option-at-requires : tie.Need-option-at-requires
 option-at-requires c κs = c .before .before .before .before .before .before .pre
 
--- src/forms.rt:258:29
 enum-known-g-2 : tie.Need-enum-known-g-2
 enum-known-g-2 c = search needs
 
--- src/forms.rt:259:26
 enum-known-inside : tie.Need-enum-known-inside
 enum-known-inside c = search needs
 
--- src/forms.rt:259:66
 slice-aggregate-option-at-2 : tie.Need-slice-aggregate-option-at-2
 slice-aggregate-option-at-2 c = search needs
 
--- src/forms.rt:259:47
 option-at-requires-2 : tie.Need-option-at-requires-2
 option-at-requires-2 c κs = c .before .before .before .before .before .before .before .before .before .before .before .pre
 
--- src/forms.rt:260:33
 enum-known-g-3 : tie.Need-enum-known-g-3
 enum-known-g-3 c = search needs
 
--- src/forms.rt:261:30
 enum-known-source : tie.Need-enum-known-source
 enum-known-source c = search needs
 
--- src/forms.rt:262:44
 label-of-requires : tie.Need-label-of-requires
 label-of-requires c κs = search needs
 
--- src/forms.rt:263:21
 ended-requires : tie.Need-ended-requires
 ended-requires c κs = c .before .before .before .before .before .before .before .before .before .before .before .before .before .before .before .before .pre
 
--- src/forms.rt:251:1
 returns : tie.Need-returns
 unfolding scopeForm bytes
 returns c = rw (← c .before .before .before .label-at .ensures, c .before .g .given .1)
 
--- src/forms.rt:251:1
 returns-2 : tie.Need-returns-2
 unfolding scopeForm bytes
 returns-2 c = rw (← c .before .before .before .before .before .before .before .before .label-at .ensures, c .before .before .before .before .before .before .n .given .1, ← c .before .before .before .option-at .ensures, c .before .g2 .given .1)
 
--- src/forms.rt:251:1
 returns-3 : tie.Need-returns-3
 unfolding scopeForm bytes
 returns-3 c = rw (← c .before .before .before .before .before .before .before .before .before .before .before .before .before .label-at .ensures, c .before .before .before .before .before .before .before .before .before .before .before .n .given .1, ← c .before .before .before .before .before .before .before .before .option-at .ensures, c .before .before .before .before .before .before .inside .given .1, ← c .before .before .before .option-at2 .ensures, c .before .g3 .given .1)
 
--- src/forms.rt:251:1
 returns-4 : tie.Need-returns-4
 unfolding scopeForm bytes
 returns-4 c = rw (← c .before .before .before .before .before .before .before .before .before .before .before .before .before .before .before .label-at .ensures, c .before .before .before .before .before .before .before .before .before .before .before .before .before .n .given .1, ← c .before .before .before .before .before .before .before .before .before .before .option-at .ensures, c .before .before .before .before .before .before .before .before .inside .given .1, ← c .before .before .before .before .before .option-at2 .ensures, c .before .before .before .source .given .1, ← c .before .label-of .ensures) (c .ended .ensures)

@@ -2,33 +2,23 @@ use Rattle.form.specs.Forms.{setForm}
 use borrow.Author.Needs.{needs}
 use Rattle.form.proofs.forms.set_form.Statement.{statement}
 use Rattle.form.proofs.forms.set_form.Tie as tie
-use Rattle.form.proofs.forms.set_form.Reads as reads
-use Rattle.form.proofs.forms.set_form.Lts as lts
-use Rattle.form.proofs.forms.ended.Reads as ended-reads
-use Rattle.form.proofs.parts.set_at.Reads as set-at-reads
 
--- src/forms.rt:130:11
 set-at-requires : tie.Need-set-at-requires
 set-at-requires c κs = c .before .pre
 
--- src/forms.rt:131:27
 enum-known-g : tie.Need-enum-known-g
 enum-known-g c = search needs
 
--- src/forms.rt:132:26
 enum-known-count : tie.Need-enum-known-count
 enum-known-count c = search needs
 
--- src/forms.rt:132:39
 ended-requires : tie.Need-ended-requires
 ended-requires c κs = c .before .before .before .before .before .pre .0
 
--- src/forms.rt:125:1
 returns : tie.Need-returns
 unfolding setForm
 returns c = rw (← c .before .before .before .set-at .ensures, c .before .g .given .1)
 
--- src/forms.rt:125:1
 returns-2 : tie.Need-returns-2
 unfolding setForm
 returns-2 c = rw (← c .before .before .before .before .set-at .ensures, c .before .before .count .given .1) (c .ended .ensures)

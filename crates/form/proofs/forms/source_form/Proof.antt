@@ -2,73 +2,52 @@ use Rattle.form.specs.Forms.{sourceForm}
 use borrow.Author.Needs.{needs}
 use Rattle.form.proofs.forms.source_form.Statement.{statement}
 use Rattle.form.proofs.forms.source_form.Tie as tie
-use Rattle.form.proofs.forms.source_form.Reads as reads
-use Rattle.form.proofs.forms.source_form.Lts as lts
-use Rattle.form.proofs.forms.ended.Reads as ended-reads
-use Rattle.form.proofs.forms.point_at.Reads as point-at-reads
-use Rattle.form.proofs.forms.sort_at.Reads as sort-at-reads
-use Rattle.form.proofs.parts.str_of.Reads as str-of-reads
 
--- src/forms.rt:165:11
 sort-at-requires : tie.Need-sort-at-requires
 sort-at-requires c κs = c .before .pre
 
--- src/forms.rt:166:23
 enum-known-g : tie.Need-enum-known-g
 enum-known-g c = search needs
 
--- src/forms.rt:167:20
 enum-known-file : tie.Need-enum-known-file
 enum-known-file c = search needs
 
--- src/forms.rt:167:39
 point-at-requires : tie.Need-point-at-requires
 point-at-requires c κs = c .before .before .before .before .before .pre
 
--- src/forms.rt:168:30
 enum-known-g-2 : tie.Need-enum-known-g-2
 enum-known-g-2 c = search needs
 
--- src/forms.rt:169:27
 enum-known-first : tie.Need-enum-known-first
 enum-known-first c = search needs
 
--- src/forms.rt:169:47
 point-at-requires-2 : tie.Need-point-at-requires-2
 point-at-requires-2 c κs = c .before .before .before .before .before .before .before .before .before .pre
 
--- src/forms.rt:170:34
 enum-known-g-3 : tie.Need-enum-known-g-3
 enum-known-g-3 c = search needs
 
--- src/forms.rt:171:31
 enum-known-last : tie.Need-enum-known-last
 enum-known-last c = search needs
 
--- src/forms.rt:173:56
 str-of-requires : tie.Need-str-of-requires
 str-of-requires c κs = search needs
 
--- src/forms.rt:173:21
 ended-requires : tie.Need-ended-requires
 ended-requires c κs = c .before .before .before .before .before .before .before .before .before .before .before .before .before .before .pre
 
--- src/forms.rt:161:1
 returns : tie.Need-returns
 unfolding sourceForm
 returns c = rw (← c .before .before .before .sort-at .ensures, c .before .g .given .1)
 
--- src/forms.rt:161:1
 returns-2 : tie.Need-returns-2
 unfolding sourceForm
 returns-2 c = rw (← c .before .before .before .before .before .before .before .sort-at .ensures, c .before .before .before .before .before .file .given .1, ← c .before .before .before .point-at .ensures, c .before .g2 .given .1)
 
--- src/forms.rt:161:1
 returns-3 : tie.Need-returns-3
 unfolding sourceForm
 returns-3 c = rw (← c .before .before .before .before .before .before .before .before .before .before .before .sort-at .ensures, c .before .before .before .before .before .before .before .before .before .file .given .1, ← c .before .before .before .before .before .before .before .point-at .ensures, c .before .before .before .before .before .first .given .1, ← c .before .before .before .point-at2 .ensures, c .before .g3 .given .1)
 
--- src/forms.rt:161:1
 returns-4 : tie.Need-returns-4
 unfolding sourceForm
 returns-4 c = rw (← c .before .before .before .before .before .before .before .before .before .before .before .before .before .sort-at .ensures, c .before .before .before .before .before .before .before .before .before .before .before .file .given .1, ← c .before .before .before .before .before .before .before .before .before .point-at .ensures, c .before .before .before .before .before .before .before .first .given .1, ← c .before .before .before .before .before .point-at2 .ensures, c .before .before .before .last .given .1, ← c .before .str-of .ensures) (c .ended .ensures)

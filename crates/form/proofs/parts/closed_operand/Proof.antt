@@ -1,22 +1,16 @@
 use borrow.Author.Needs.{needs}
 use Rattle.form.proofs.parts.closed_operand.Statement.{statement}
 use Rattle.form.proofs.parts.closed_operand.Tie as tie
-use Rattle.form.proofs.parts.closed_operand.Reads as reads
-use Rattle.form.proofs.parts.closed_operand.Lts as lts
 
--- src/parts.rt:191:27
 enum-known-concatenation : tie.Need-enum-known-concatenation
 enum-known-concatenation c = search needs
 
--- src/parts.rt:192:26
 enum-known-concatenation-2 : tie.Need-enum-known-concatenation-2
 enum-known-concatenation-2 c = search needs
 
--- src/parts.rt:187:1
 returns : tie.Need-returns
 returns c = rw (c .before .concatenation .given .1)
 
--- src/parts.rt:187:1
 returns-2 : tie.Need-returns-2
 returns-2 c = rw (c .before .concatenation2 .given .1)
 

@@ -1,20 +1,15 @@
+-- What is left gives what the whole gives. Each part adds at most 65,536 times 65,536 to the width, so 64 bits hold it.
 use Rattle.form.proofs.Widths.{next-narrow}
 use Rattle.form.proofs.Measures.{concat-none, concat-took, concat-other, concat-refused}
 use Rattle.form.specs.Parts.{concatFrom, concatAt}
 use lib.ListN.{length}
 use native.Mathlib.Numerals.{add-one}
 use native.Mathlib.Omega.{arith}
-use mathlib.Core.List.{List}
-use mathlib.Core.Path.{_≡_, refl, sym, _∙_, ap}
-use Prim.Native.Nat.{ℕ, suc, _+_, _-_, _*_, _≤_}
+use mathlib.Core.Path.{_≡_, sym, _∙_, ap}
+use Prim.Native.Nat.{ℕ, _+_, _-_, _*_, _≤_}
 use borrow.Author.Needs.{needs}
 use Rattle.form.proofs.parts.concat.Statement.{statement}
 use Rattle.form.proofs.parts.concat.Tie as tie
-use Rattle.form.proofs.parts.concat.Reads as reads
-use Rattle.form.proofs.parts.concat.Lts as lts
-use Rattle.form.proofs.parts.concat_end.Reads as concat-end-reads
-use Rattle.form.proofs.parts.next_part.Reads as next-part-reads
-use Rattle.form.proofs.parts.part_width.Reads as part-width-reads
 
 abbrev Inv-loop : tie.InvT-loop
 Inv-loop t text width₀ next₀ left₀ width next left = (left ≤ length text + 1) × (width ≤ (length text + 1 - left) * 4294967296) × (concatFrom left text width (next .next .at) ≡ concatAt text (next₀ .next .at))
@@ -22,65 +17,50 @@ Inv-loop t text width₀ next₀ left₀ width next left = (left ≤ length text
 abbrev μ-loop : tie.MeasureT-loop
 μ-loop t text width₀ next₀ left₀ width next left = left
 
--- src/parts.rt:140:20
 add-left : tie.Need-add-left Inv-loop μ-loop
 add-left c = search needs
 
--- src/parts.rt:141:5
 loop-holds : tie.Need-loop-holds Inv-loop μ-loop
 loop-holds c = (omega arith, omega arith, ap (λ (n : ℕ). concatFrom n (c .before .args .text .now) 0 (c .before .args .reader .next .at)) (add-one (length (c .before .args .text .now))))
 
--- src/parts.rt:142:15
 next-part-requires : tie.Need-next-part-requires Inv-loop μ-loop
 next-part-requires c κs = search needs
 
--- src/parts.rt:143:26
 enum-known-p : tie.Need-enum-known-p Inv-loop μ-loop
 enum-known-p c = search needs
 
--- src/parts.rt:144:26
 part-width-requires : tie.Need-part-width-requires Inv-loop μ-loop
 part-width-requires c κs = let p = c .before .before .before .before .before in let a = p .before .before .args in let told = sym (c .before .before .before .next-part .ensures) ∙ c .before .p .given .1 in next-narrow (a .text .now) (p .loop .next .next .at) (p .before .before .pre .1) _ _ _ told
 
--- src/parts.rt:144:17
 add-width : tie.Need-add-width Inv-loop μ-loop
 add-width c = let p = c .before .before .before .before .before .before in let a = p .before .before .args in let told = sym (c .before .before .before .before .next-part .ensures) ∙ c .before .before .p .given .1 in let n = next-narrow (a .text .now) (p .loop .next .next .at) (p .before .before .pre .1) _ _ _ told in omega (arith, n, c .part-width .ensures)
 
--- src/parts.rt:147:27
 enum-known-token : tie.Need-enum-known-token Inv-loop μ-loop
 enum-known-token c = search needs
 
--- src/parts.rt:148:17
 concat-end-requires : tie.Need-concat-end-requires Inv-loop μ-loop
 concat-end-requires c κs = search needs
 
--- src/parts.rt:148:17
 returns : tie.Need-returns Inv-loop μ-loop
 returns c = let p = c .before .before .before .before .before .before in let a = p .before .before .args in c .concat-end .ensures ∙ concat-other (p .loop .left) (a .text .now) (p .loop .width) (p .loop .next .next .at) (c .before .before .before .before .before .loop-test .taken) _ _ (sym (c .before .before .before .before .next-part .ensures) ∙ c .before .before .token .given .1) ∙ p .loop .inv .2
 
--- src/parts.rt:150:29
 enum-known-g : tie.Need-enum-known-g Inv-loop μ-loop
 enum-known-g c = search needs
 
--- src/parts.rt:151:17
 returns-2 : tie.Need-returns-2 Inv-loop μ-loop
 returns-2 c = let p = c .before .before .before .before .before in let a = p .before .before .args in concat-refused (p .loop .left) (a .text .now) (p .loop .width) (p .loop .next .next .at) (c .before .before .before .before .loop-test .taken) _ (sym (c .before .before .before .next-part .ensures) ∙ c .before .g .given .1) ∙ p .loop .inv .2
 
--- src/parts.rt:154:9
 sub-left : tie.Need-sub-left Inv-loop μ-loop
 sub-left c = search needs
 
--- src/parts.rt:141:5
 loop-less : tie.Need-loop-less Inv-loop μ-loop
 loop-less c = search needs
 
--- src/parts.rt:141:5
 loop-again : tie.Need-loop-again Inv-loop μ-loop
 loop-again c = let p = c .before .before .before .before .before .before in let a = p .before .before .args in let told = sym (c .before .before .before .before .next-part .ensures) ∙ c .before .before .p .given .1 in
     let n = next-narrow (a .text .now) (p .loop .next .next .at) (p .before .before .pre .1) _ _ _ told in
     (omega arith, omega (arith, n, c .part-width .ensures), rw (c .part-width .ensures) (concat-took (p .loop .left) (a .text .now) (p .loop .width) (p .loop .next .next .at) (c .before .before .before .before .before .loop-test .taken) _ _ _ told ∙ p .loop .inv .2))
 
--- src/parts.rt:134:1
 returns-3 : tie.Need-returns-3 Inv-loop μ-loop
 returns-3 c = let p = c .before .before in let a = p .before .before .args in concat-none (p .loop .left) (a .text .now) (p .loop .width) (p .loop .next .next .at) (c .before .loop-test .left) ∙ p .loop .inv .2
 

@@ -1,15 +1,10 @@
-use borrow.Author.Tests.{eq-eqb, ne-eqb, le-leb, lt-leb}
-use borrow.Author.Needs.{needs}
+use borrow.Author.Tests.{eq-eqb, ne-eqb}
 use Rattle.form.proofs.parts.is_part.Statement.{statement}
 use Rattle.form.proofs.parts.is_part.Tie as tie
-use Rattle.form.proofs.parts.is_part.Reads as reads
-use Rattle.form.proofs.parts.is_part.Lts as lts
 
--- src/parts.rt:37:9
 returns : tie.Need-returns
 returns c = rw (eq-eqb _ 4 (c .if1 .taken))
 
--- src/parts.rt:33:1
 returns-2 : tie.Need-returns-2
 returns-2 c = rw (ne-eqb _ 4 (c .before .if1 .left))
 

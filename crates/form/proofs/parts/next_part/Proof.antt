@@ -2,33 +2,23 @@ use Rattle.form.specs.Parts.{nextPart}
 use borrow.Author.Needs.{needs}
 use Rattle.form.proofs.parts.next_part.Statement.{statement}
 use Rattle.form.proofs.parts.next_part.Tie as tie
-use Rattle.form.proofs.parts.next_part.Reads as reads
-use Rattle.form.proofs.parts.next_part.Lts as lts
-use Rattle.form.proofs.parts.parted.Reads as parted-reads
-use Rattle.lexis.proofs.Reader.inside_with.Reads as inside-with-reads
 
--- src/parts.rt:106:11
 inside-with-requires : tie.Need-inside-with-requires
 inside-with-requires c κs = search needs
 
--- src/parts.rt:107:23
 enum-known-g : tie.Need-enum-known-g
 enum-known-g c = search needs
 
--- src/parts.rt:108:20
 enum-known-token : tie.Need-enum-known-token
 enum-known-token c = search needs
 
--- src/parts.rt:108:33
 parted-requires : tie.Need-parted-requires
 parted-requires c κs = search needs
 
--- src/parts.rt:102:1
 returns : tie.Need-returns
 unfolding nextPart
 returns c = rw (← c .before .before .before .inside-with .ensures, c .before .g .given .1)
 
--- src/parts.rt:102:1
 returns-2 : tie.Need-returns-2
 unfolding nextPart
 returns-2 c = rw (← c .before .before .before .before .inside-with .ensures, c .before .before .token .given .1) (c .parted .ensures)

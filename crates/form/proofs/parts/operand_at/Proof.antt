@@ -1,36 +1,27 @@
+-- A token of a text of at most 65,536 bytes is narrow, so the width of a part fits.
 use Rattle.form.proofs.Widths.{token-narrow}
 use mathlib.Core.Path.{sym, _∙_}
 use Rattle.form.specs.Parts.{operandAt}
 use borrow.Author.Needs.{needs}
 use Rattle.form.proofs.parts.operand_at.Statement.{statement}
 use Rattle.form.proofs.parts.operand_at.Tie as tie
-use Rattle.form.proofs.parts.operand_at.Reads as reads
-use Rattle.form.proofs.parts.operand_at.Lts as lts
-use Rattle.form.proofs.parts.operand_from.Reads as operand-from-reads
-use Rattle.lexis.proofs.Reader.next_with.Reads as next-with-reads
 
--- src/parts.rt:205:11
 next-with-requires : tie.Need-next-with-requires
 next-with-requires c κs = search needs
 
--- src/parts.rt:206:23
 enum-known-g : tie.Need-enum-known-g
 enum-known-g c = search needs
 
--- src/parts.rt:207:20
 enum-known-token : tie.Need-enum-known-token
 enum-known-token c = search needs
 
--- src/parts.rt:207:33
 operand-from-requires : tie.Need-operand-from-requires
 operand-from-requires c κs = (c .before .before .before .before .before .pre .0, c .before .before .before .before .before .pre .1, token-narrow (c .before .before .before .before .before .args .text .now) (c .before .before .before .before .before .args .reader .next .at) (c .before .before .before .before .before .pre .1) _ _ (sym (c .before .before .before .next-with .ensures) ∙ c .before .token .given .1))
 
--- src/parts.rt:200:1
 returns : tie.Need-returns
 unfolding operandAt
 returns c = rw (← c .before .before .before .next-with .ensures, c .before .g .given .1)
 
--- src/parts.rt:200:1
 returns-2 : tie.Need-returns-2
 unfolding operandAt
 returns-2 c = rw (← c .before .before .before .before .next-with .ensures, c .before .before .token .given .1) (c .operand-from .ensures)

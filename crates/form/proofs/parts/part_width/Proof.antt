@@ -2,39 +2,28 @@ use native.Mathlib.Omega.{arith}
 use borrow.Author.Needs.{needs}
 use Rattle.form.proofs.parts.part_width.Statement.{statement}
 use Rattle.form.proofs.parts.part_width.Tie as tie
-use Rattle.form.proofs.parts.part_width.Reads as reads
-use Rattle.form.proofs.parts.part_width.Lts as lts
-use Rattle.form.proofs.parts.base_width.Reads as base-width-reads
 
--- src/parts.rt:87:19
 enum-known-part : tie.Need-enum-known-part
 enum-known-part c = search needs
 
--- src/parts.rt:87:25
 base-width-requires : tie.Need-base-width-requires
 base-width-requires c κs = search needs
 
--- src/parts.rt:88:24
 enum-known-part-2 : tie.Need-enum-known-part-2
 enum-known-part-2 c = search needs
 
--- src/parts.rt:88:34
 cast-result : tie.Need-cast-result
 cast-result c = search needs
 
--- src/parts.rt:88:46
 base-width-requires-2 : tie.Need-base-width-requires-2
 base-width-requires-2 c κs = search needs
 
--- src/parts.rt:88:33
 mul-result : tie.Need-mul-result
 mul-result c = let p = rw (c .before .before .part2 .given .1) at (c .before .before .before .before .pre) in record { fits = rw (c .base-width2 .ensures) (omega arith) }
 
--- src/parts.rt:82:1
 returns : tie.Need-returns
 returns c = rw (c .before .before .part .given .1) (c .base-width .ensures)
 
--- src/parts.rt:82:1
 returns-2 : tie.Need-returns-2
 returns-2 c = rw (c .before .before .part2 .given .1, ← c .base-width2 .ensures)
 

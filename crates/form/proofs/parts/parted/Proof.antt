@@ -1,24 +1,16 @@
 use borrow.Author.Needs.{needs}
 use Rattle.form.proofs.parts.parted.Statement.{statement}
 use Rattle.form.proofs.parts.parted.Tie as tie
-use Rattle.form.proofs.parts.parted.Reads as reads
-use Rattle.form.proofs.parts.parted.Lts as lts
-use Rattle.form.proofs.parts.is_part.Reads as is-part-reads
-use Rattle.form.proofs.parts.part_of.Reads as part-of-reads
 
--- src/parts.rt:116:8
 is-part-requires : tie.Need-is-part-requires
 is-part-requires c κs = search needs
 
--- src/parts.rt:117:29
 part-of-requires : tie.Need-part-of-requires
 part-of-requires c κs = search needs
 
--- src/parts.rt:117:9
 returns : tie.Need-returns
 returns c = rw (← c .before .before .is-part .ensures, c .before .if1 .taken, ← c .part-of .ensures)
 
--- src/parts.rt:112:1
 returns-2 : tie.Need-returns-2
 returns-2 c = rw (← c .before .is-part .ensures, c .if1 .left)
 

@@ -1,18 +1,14 @@
+-- What is left gives what the whole gives. There are at most as many members as turns.
 use Rattle.form.proofs.Measures.{set-none, set-took, set-other, set-refused}
 use Rattle.form.specs.Parts.{setFrom, setAt}
 use lib.ListN.{length}
 use native.Mathlib.Numerals.{add-one}
 use native.Mathlib.Omega.{arith}
-use mathlib.Core.List.{List}
-use mathlib.Core.Path.{_≡_, refl, sym, _∙_, ap}
-use Prim.Native.Nat.{ℕ, suc, _+_, _-_, _≤_}
+use mathlib.Core.Path.{_≡_, sym, _∙_, ap}
+use Prim.Native.Nat.{ℕ, _+_, _-_, _≤_}
 use borrow.Author.Needs.{needs}
 use Rattle.form.proofs.parts.set_at.Statement.{statement}
 use Rattle.form.proofs.parts.set_at.Tie as tie
-use Rattle.form.proofs.parts.set_at.Reads as reads
-use Rattle.form.proofs.parts.set_at.Lts as lts
-use Rattle.form.proofs.parts.next_member.Reads as next-member-reads
-use Rattle.form.proofs.parts.set_end.Reads as set-end-reads
 
 abbrev Inv-loop : tie.InvT-loop
 Inv-loop t text count₀ next₀ left₀ count next left = (left ≤ length text + 1) × (count ≤ length text + 1 - left) × (setFrom left text count (next .next .at) ≡ setAt text (next₀ .next .at))
@@ -20,60 +16,46 @@ Inv-loop t text count₀ next₀ left₀ count next left = (left ≤ length text
 abbrev μ-loop : tie.MeasureT-loop
 μ-loop t text count₀ next₀ left₀ count next left = left
 
--- src/parts.rt:259:20
 add-left : tie.Need-add-left Inv-loop μ-loop
 add-left c = search needs
 
--- src/parts.rt:260:5
 loop-holds : tie.Need-loop-holds Inv-loop μ-loop
 loop-holds c = (omega arith, omega arith, ap (λ (n : ℕ). setFrom n (c .before .args .text .now) 0 (c .before .args .reader .next .at)) (add-one (length (c .before .args .text .now))))
 
--- src/parts.rt:261:15
 next-member-requires : tie.Need-next-member-requires Inv-loop μ-loop
 next-member-requires c κs = search needs
 
--- src/parts.rt:262:31
 enum-known-r : tie.Need-enum-known-r Inv-loop μ-loop
 enum-known-r c = search needs
 
--- src/parts.rt:263:17
 add-count : tie.Need-add-count Inv-loop μ-loop
 add-count c = search needs
 
--- src/parts.rt:266:29
 enum-known-token : tie.Need-enum-known-token Inv-loop μ-loop
 enum-known-token c = search needs
 
--- src/parts.rt:267:17
 set-end-requires : tie.Need-set-end-requires Inv-loop μ-loop
 set-end-requires c κs = search needs
 
--- src/parts.rt:267:17
 returns : tie.Need-returns Inv-loop μ-loop
 returns c = let p = c .before .before .before .before .before .before in let a = p .before .before .args in c .set-end .ensures ∙ set-other (p .loop .left) (a .text .now) (p .loop .count) (p .loop .next .next .at) (c .before .before .before .before .before .loop-test .taken) _ _ (sym (c .before .before .before .before .next-member .ensures) ∙ c .before .before .token .given .1) ∙ p .loop .inv .2
 
--- src/parts.rt:269:31
 enum-known-g : tie.Need-enum-known-g Inv-loop μ-loop
 enum-known-g c = search needs
 
--- src/parts.rt:270:17
 returns-2 : tie.Need-returns-2 Inv-loop μ-loop
 returns-2 c = let p = c .before .before .before .before .before in let a = p .before .before .args in set-refused (p .loop .left) (a .text .now) (p .loop .count) (p .loop .next .next .at) (c .before .before .before .before .loop-test .taken) _ (sym (c .before .before .before .next-member .ensures) ∙ c .before .g .given .1) ∙ p .loop .inv .2
 
--- src/parts.rt:273:9
 sub-left : tie.Need-sub-left Inv-loop μ-loop
 sub-left c = search needs
 
--- src/parts.rt:260:5
 loop-less : tie.Need-loop-less Inv-loop μ-loop
 loop-less c = search needs
 
--- src/parts.rt:260:5
 loop-again : tie.Need-loop-again Inv-loop μ-loop
 loop-again c = let p = c .before .before .before .before .before in let a = p .before .before .args in let told = sym (c .before .before .before .next-member .ensures) ∙ c .before .r .given .1 in
     (omega arith, omega arith, set-took (p .loop .left) (a .text .now) (p .loop .count) (p .loop .next .next .at) (c .before .before .before .before .loop-test .taken) _ _ told ∙ p .loop .inv .2)
 
--- src/parts.rt:253:1
 returns-3 : tie.Need-returns-3 Inv-loop μ-loop
 returns-3 c = let p = c .before .before in let a = p .before .before .args in set-none (p .loop .left) (a .text .now) (p .loop .count) (p .loop .next .next .at) (c .before .loop-test .left) ∙ p .loop .inv .2
 

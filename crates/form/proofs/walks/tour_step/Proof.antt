@@ -3,25 +3,17 @@ use Rattle.form.specs.Walks.{tourStep}
 use borrow.Author.Needs.{needs}
 use Rattle.form.proofs.walks.tour_step.Statement.{statement}
 use Rattle.form.proofs.walks.tour_step.Tie as tie
-use Rattle.form.proofs.walks.tour_step.Reads as reads
-use Rattle.form.proofs.walks.tour_step.Lts as lts
-use Rattle.form.proofs.parts.next_member.Reads as next-member-reads
-use Rattle.form.proofs.walks.tour_on.Reads as tour-on-reads
 
--- src/walks.rt:119:9
 returns : tie.Need-returns
 unfolding tourStep
 returns c = rw (eq-eqb _ 0 (c .if1 .taken))
 
--- src/walks.rt:121:19
 next-member-requires : tie.Need-next-member-requires
 next-member-requires c κs = search needs
 
--- src/walks.rt:121:5
 tour-on-requires : tie.Need-tour-on-requires
 tour-on-requires c κs = search needs
 
--- src/walks.rt:112:1
 returns-2 : tie.Need-returns-2
 unfolding tourStep
 returns-2 c = rw (ne-eqb _ 0 (c .before .before .if1 .left), ← c .before .next-member .ensures) (c .tour-on .ensures)

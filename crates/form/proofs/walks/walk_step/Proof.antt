@@ -3,47 +3,34 @@ use Rattle.form.specs.Walks.{walkStep}
 use borrow.Author.Needs.{needs}
 use Rattle.form.proofs.walks.walk_step.Statement.{statement}
 use Rattle.form.proofs.walks.walk_step.Tie as tie
-use Rattle.form.proofs.walks.walk_step.Reads as reads
-use Rattle.form.proofs.walks.walk_step.Lts as lts
-use Rattle.form.proofs.parts.next_part.Reads as next-part-reads
-use Rattle.form.proofs.walks.walk_on.Reads as walk-on-reads
 
--- src/walks.rt:72:23
 enum-told : tie.Need-enum-told
 enum-told c = search needs
 
--- src/walks.rt:73:21
 enum-known-walk : tie.Need-enum-known-walk
 enum-known-walk c = search needs
 
--- src/walks.rt:74:22
 enum-known-walk-2 : tie.Need-enum-known-walk-2
 enum-known-walk-2 c = search needs
 
--- src/walks.rt:76:17
 returns : tie.Need-returns
 unfolding walkStep
 returns c = rw (c .before .before .walk2 .given .1, eq-eqb _ 0 (c .if1 .taken))
 
--- src/walks.rt:78:27
 next-part-requires : tie.Need-next-part-requires
 next-part-requires c κs = search needs
 
--- src/walks.rt:78:13
 walk-on-requires : tie.Need-walk-on-requires
 walk-on-requires c κs = search needs
 
--- src/walks.rt:67:1
 returns-2 : tie.Need-returns-2
 unfolding walkStep
 returns-2 c = rw (c .enum-told .given .1)
 
--- src/walks.rt:67:1
 returns-3 : tie.Need-returns-3
 unfolding walkStep
 returns-3 c = rw (c .before .walk .given .1)
 
--- src/walks.rt:67:1
 returns-4 : tie.Need-returns-4
 unfolding walkStep
 returns-4 c = rw (c .before .before .before .before .walk2 .given .1, ne-eqb _ 0 (c .before .before .if1 .left), ← c .before .next-part .ensures) (c .walk-on .ensures)

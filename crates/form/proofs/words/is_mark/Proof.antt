@@ -1,15 +1,10 @@
 use borrow.Author.Tests.{eq-eqb, ne-eqb}
-use borrow.Author.Needs.{needs}
 use Rattle.form.proofs.words.is_mark.Statement.{statement}
 use Rattle.form.proofs.words.is_mark.Tie as tie
-use Rattle.form.proofs.words.is_mark.Reads as reads
-use Rattle.form.proofs.words.is_mark.Lts as lts
 
--- src/words.rt:61:9
 returns : tie.Need-returns
 returns c = rw (eq-eqb _ 2 (c .before .if1 .taken))
 
--- src/words.rt:57:1
 returns-2 : tie.Need-returns-2
 returns-2 c = rw (ne-eqb _ 2 (c .if1 .left))
 

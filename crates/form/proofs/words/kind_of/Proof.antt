@@ -7,24 +7,16 @@ use borrow.Author.Tests.{eq-eqb, ne-eqb}
 use borrow.Author.Needs.{needs}
 use Rattle.form.proofs.words.kind_of.Statement.{statement}
 use Rattle.form.proofs.words.kind_of.Tie as tie
-use Rattle.form.proofs.words.kind_of.Reads as reads
-use Rattle.form.proofs.words.kind_of.Lts as lts
-use Rattle.form.proofs.words.keyword.Reads as keyword-reads
-use Rattle.form.proofs.words.run_at.Reads as run-at-reads
 
--- src/words.rt:122:24
 run-at-requires : tie.Need-run-at-requires
 run-at-requires c κs = search needs
 
--- src/words.rt:122:9
 keyword-requires : tie.Need-keyword-requires
 keyword-requires c κs = search needs
 
--- src/words.rt:122:9
 returns : tie.Need-returns
 returns c = rw (eq-eqb _ 3 (c .before .before .if1 .taken)) (c .keyword .ensures ∙ ap (λ (l : List ℕ). numbered keywords l 1) (c .before .run-at .ensures))
 
--- src/words.rt:116:1
 returns-2 : tie.Need-returns-2
 returns-2 c = rw (ne-eqb _ 3 (c .if1 .left))
 

@@ -6,62 +6,46 @@ use Rattle.form.proofs.Letters.{run-none, run-short}
 use borrow.Author.Needs.{needs}
 use Rattle.form.proofs.words.run_at.Statement.{statement}
 use Rattle.form.proofs.words.run_at.Tie as tie
-use Rattle.form.proofs.words.run_at.Reads as reads
-use Rattle.form.proofs.words.run_at.Lts as lts
 
--- src/words.rt:35:16
 sub-result : tie.Need-sub-result
 sub-result c = search needs
 
--- src/words.rt:35:16
 part-result-start : tie.Need-part-result-start
 part-result-start c = search needs
 
--- src/words.rt:35:16
 part-result-end : tie.Need-part-result-end
 part-result-end c = search needs
 
--- src/words.rt:35:9
 returns : tie.Need-returns
 returns c = run-none (c .before .before .args .text .now) (c .before .before .args .from) (c .before .before .args .size) (c .before .if1 .taken)
 
--- src/words.rt:37:8
 sub-if2 : tie.Need-sub-if2
 sub-if2 c = search needs
 
--- src/words.rt:38:16
 sub-result-2 : tie.Need-sub-result-2
 sub-result-2 c = search needs
 
--- src/words.rt:38:16
 part-result-start-2 : tie.Need-part-result-start-2
 part-result-start-2 c = search needs
 
--- src/words.rt:38:16
 part-result-end-2 : tie.Need-part-result-end-2
 part-result-end-2 c = search needs
 
--- src/words.rt:38:9
 returns-2 : tie.Need-returns-2
 returns-2 c = let p = c .before .before .before in run-short (p .args .text .now) (p .args .from) (p .args .size) (c .before .if2 .taken)
 
--- src/words.rt:40:15
 add-end : tie.Need-add-end
 add-end c = search needs
 
--- src/words.rt:41:5
 sub-result-3 : tie.Need-sub-result-3
 sub-result-3 c = search needs
 
--- src/words.rt:41:5
 part-result-start-3 : tie.Need-part-result-start-3
 part-result-start-3 c = search needs
 
--- src/words.rt:41:5
 part-result-end-3 : tie.Need-part-result-end-3
 part-result-end-3 c = search needs
 
--- src/words.rt:31:1
 returns-3 : tie.Need-returns-3
 returns-3 c = let p = c .before .before .before in let e : p .args .from + p .args .size - p .args .from ≡ p .args .size = omega arith in ap (λ (n : ℕ). take n (drop (p .args .from) (p .args .text .now))) e
 

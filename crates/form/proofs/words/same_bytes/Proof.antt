@@ -1,3 +1,4 @@
+-- The rests are the same where the whole runs are.
 use Prim.Native.Nat.{_-_}
 use mathlib.Core.Path.{_≡_, refl, _∙_}
 use native.Mathlib.Omega.{arith}
@@ -7,8 +8,6 @@ use Rattle.form.proofs.Letters.{same-on, same-differ, same-short, same-
 use borrow.Author.Needs.{needs}
 use Rattle.form.proofs.words.same_bytes.Statement.{statement}
 use Rattle.form.proofs.words.same_bytes.Tie as tie
-use Rattle.form.proofs.words.same_bytes.Reads as reads
-use Rattle.form.proofs.words.same_bytes.Lts as lts
 
 abbrev Inv-loop : tie.InvT-loop
 Inv-loop a b i₀ i = same (drop i a) (drop i b) ≡ same a b
@@ -16,43 +15,33 @@ Inv-loop a b i₀ i = same (drop i a) (drop i b) ≡ same a b
 abbrev μ-loop : tie.MeasureT-loop
 μ-loop a b i₀ i = length a - i
 
--- src/words.rt:15:5
 loop-holds : tie.Need-loop-holds Inv-loop μ-loop
 loop-holds c = refl
 
--- src/words.rt:17:13
 returns : tie.Need-returns Inv-loop μ-loop
 returns c = let p = c .before .before in same-short (p .before .args .a .now) (p .before .args .b .now) (p .loop .i) (c .before .loop-test .taken) (c .if1 .taken) ∙ p .loop .inv
 
--- src/words.rt:19:12
 shared-slice-read-if2 : tie.Need-shared-slice-read-if2 Inv-loop μ-loop
 shared-slice-read-if2 c = search needs
 
--- src/words.rt:19:20
 shared-slice-read-if2-2 : tie.Need-shared-slice-read-if2-2 Inv-loop μ-loop
 shared-slice-read-if2-2 c = search needs
 
--- src/words.rt:20:13
 returns-2 : tie.Need-returns-2 Inv-loop μ-loop
 returns-2 c = let p = c .before .before .before .before .before in same-differ (p .before .args .a .now) (p .before .args .b .now) (p .loop .i) (omega arith) (omega arith) (c .if2 .taken) ∙ p .loop .inv
 
--- src/words.rt:22:9
 add-i : tie.Need-add-i Inv-loop μ-loop
 add-i c = search needs
 
--- src/words.rt:15:5
 loop-less : tie.Need-loop-less Inv-loop μ-loop
 loop-less c = search needs
 
--- src/words.rt:15:5
 loop-again : tie.Need-loop-again Inv-loop μ-loop
 loop-again c = let p = c .before .before .before .before .before in same-on (p .before .args .a .now) (p .before .args .b .now) (p .loop .i) (omega arith) (omega arith) (c .if2 .left) ∙ p .loop .inv
 
--- src/words.rt:25:9
 returns-3 : tie.Need-returns-3 Inv-loop μ-loop
 returns-3 c = let p = c .before .before in same-long (p .before .args .a .now) (p .before .args .b .now) (p .loop .i) (c .before .loop-test .left) (c .if3 .taken) ∙ p .loop .inv
 
--- src/words.rt:11:1
 returns-4 : tie.Need-returns-4 Inv-loop μ-loop
 returns-4 c = let p = c .before .before in same-end (p .before .args .a .now) (p .before .args .b .now) (p .loop .i) (c .before .loop-test .left) (c .if3 .left) ∙ p .loop .inv
 
