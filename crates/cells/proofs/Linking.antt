@@ -82,14 +82,14 @@ abbrev pub RunsAsk : (ℕ → Type 0) → List Run → Type 0
 RunsAsk P [] = Unit {0}
 RunsAsk P (r ∷ rs) = RunAsks P r × RunsAsk P rs
 
-run-asks : (P : ℕ → Type 0) (r : Run) → RunAsks P r → AllAsk P (runBits r)
+pub run-asks : (P : ℕ → Type 0) (r : Run) → RunAsks P r → AllAsk P (runBits r)
 unfolding knownBits falling
 run-asks P (const []) h = tt
 run-asks P (const (t ∷ ts)) h = (h .0, run-asks P (const ts) (h .1))
 run-asks P (piece row o zero) h = tt
 run-asks P (piece row o (suc w)) h = (h, run-asks P (piece row o w) h)
 
-runs-ask : (P : ℕ → Type 0) (rs : List Run) → RunsAsk P rs → AllAsk P (operandBits rs)
+pub runs-ask : (P : ℕ → Type 0) (rs : List Run) → RunsAsk P rs → AllAsk P (operandBits rs)
 unfolding joined
 runs-ask P [] h = tt
 runs-ask P (r ∷ rs) h = asks-append P (runBits r) (operandBits rs) (run-asks P r (h .0)) (runs-ask P rs (h .1))
