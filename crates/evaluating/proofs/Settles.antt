@@ -8,10 +8,10 @@ use native.Mathlib.Omega.{arith}
 use native.Mathlib.Decide.{ℕ-discrete, decLt}
 use lib.Dec.{eqb}
 use lib.ListN.{length, getD, length-map, List·getD-eq-default}
-use borrow.Author.Tests.{eq-eqb, ne-eqb}
 use Rattle.ground.specs.Choice.{pick}
 use Rattle.ground.specs.Lists.{updated, joined}
 use Rattle.ground.proofs.Bools.{bool-cases, never-both, or-true, or-false, or-left}
+use Rattle.ground.proofs.Families.{updated-same, updated-other}
 use Rattle.graph.specs.Graph.{mem, ready, place, order}
 use Rattle.graph.specs.Placing.{Placing, done, step}
 use Rattle.graph.proofs.Ready.{place-same, place-other, place-keeps, place-cases, ready-unplaced, ready-reads}
@@ -46,14 +46,6 @@ outputs-each : (u v : Setting) (cs : List Cell) → ((i : ℕ) → i < length cs
 unfolding joined
 outputs-each u v [] q = refl
 outputs-each u v (c ∷ cs) q = ap₂ (λ (a b : List ℕ). a ++ b) (output-agrees u v c (q 0 (omega arith))) (outputs-each u v cs (λ i l. q (suc i) (omega arith)))
-
-updated-other : {A : Type 0} (f : ℕ → A) (row : ℕ) (x : A) (i : ℕ) → (i ≡ row → ⊥) → updated f row x i ≡ f i
-unfolding updated
-updated-other f row x i h = rw (ne-eqb i row h)
-
-updated-same : {A : Type 0} (f : ℕ → A) (row : ℕ) (x : A) → updated f row x row ≡ x
-unfolding updated
-updated-same f row x = rw (eq-eqb row row refl)
 
 module _ (N : Netlist) (valid-N : valid N ≡ true) (ins : List ℕ) where
   abbrev count : ℕ

@@ -1,4 +1,5 @@
 pub mod Bools
+pub mod Families
 pub mod Lent
 pub mod Outcome
 pub mod Regions

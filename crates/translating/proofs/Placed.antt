@@ -9,10 +9,10 @@ use native.Mathlib.Nat.{add-zero}
 use native.Mathlib.Decide.{ℕ-discrete}
 use lib.Dec.{eqb, ltb}
 use lib.ListN.{length, getD, length-append}
-use borrow.Author.Tests.{eq-eqb, ne-eqb}
 use Rattle.ground.specs.Choice.{pick}
 use Rattle.ground.specs.Lists.{updated}
 use Rattle.ground.proofs.Bools.{bool-cases, never-both, or-false}
+use Rattle.ground.proofs.Families.{updated-same, updated-other}
 use Rattle.trit.specs.Trit.{Trits}
 use Rattle.trit.proofs.Laws.{not-trit, and-trit, or-trit, xor-trit}
 use Rattle.trit.proofs.Wide.{trits-append, trits-at}
@@ -75,14 +75,6 @@ constants-old S T c = record {
 
 pub linked-old : (S T : List ℕ) (slots values : ℕ → List ℕ) (row : ℕ) → Linked S slots values row → Linked (S ++ T) slots values row
 linked-old S T slots values row l = record { early = early-old S T (slots row) (l .early); holds = reads-old S T (slots row) (l .early) ∙ l .holds }
-
-updated-same : {A : Type 0} (f : ℕ → A) (row : ℕ) (x : A) → updated f row x row ≡ x
-unfolding updated
-updated-same f row x = rw (eq-eqb row row refl)
-
-updated-other : {A : Type 0} (f : ℕ → A) (row : ℕ) (x : A) (i : ℕ) → (i ≡ row → ⊥) → updated f row x i ≡ f i
-unfolding updated
-updated-other f row x i h = rw (ne-eqb i row h)
 
 -- THE SLOTS SO FAR: they are trits, hold the constants, and hold the bits of every placed row that can be read
 pub record Held (N : Netlist) (P : ℕ → Bool) (S : List ℕ) (slots values : ℕ → List ℕ) : Type 0 where
