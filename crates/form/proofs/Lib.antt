@@ -3,4 +3,5 @@ pub mod Letters
 pub mod Measures
 pub mod Outcomes
 pub mod Steps
+pub mod Sums
 pub mod Widths

@@ -19,6 +19,7 @@ use Rattle.form.specs.Parts.{isPart, partsOf, partsAt, partsFrom, member
 use Rattle.form.specs.Walks.{walkFrom, walkOf, walkOn, walkStep, partsLeft, partsOn, mostParts, tourAt, tourOn, tourStep, membersLeft, membersOn}
 use Rattle.form.specs.declared.Operand.{Operand}
 use Rattle.form.specs.declared.Part.{Part}
+use Rattle.form.specs.declared.Ref.{Ref}
 use Rattle.form.specs.declared.Parted.{Parted}
 use Rattle.form.specs.declared.Parted.the-variants as parted
 use Rattle.form.specs.declared.Membered.{Membered}
@@ -87,3 +88,14 @@ toured-on text w (suc f) (membered.Refused g) e = rw (e, membersFrom) (rw (some-
 pub tour-goes : (text : List ℕ) (w : Tour) → membersLeft text w ≡ membersOn text (tourStep text w)
 unfolding tourStep
 tour-goes text w = toured-on text w (w .left) (nextMember text (w .next .next .at)) refl
+
+pub tour-shrinks : (text : List ℕ) (w next : Tour) (m : Ref) → tourStep text w ≡ toured.Member m next → next .left < w .left
+unfolding tourStep
+tour-shrinks text w next m e = bool-cases (eqb (w .left) 0)
+    (λ z. let f = rw z at e in let n : _≡_ {A = ℕ} 0 1 = cc in absurd (omega arith))
+    (λ s. go (nextMember text (w .next .next .at)) (rw s at e) (eqb-false (w .left) 0 s))
+  where
+    go : (v : Membered) → tourOn (w .left) v ≡ toured.Member m next → (w .left ≡ 0 → ⊥) → next .left < w .left
+    go (membered.Took x q) e h = let l : next .left ≡ w .left - 1 = (let n : next ≡ record { next = q; left = w .left - 1 } = cc in ap (λ (t : Tour). t .left) n) in omega arith
+    go (membered.Other t q) e h = let z : _≡_ {A = ℕ} 0 1 = cc in absurd (omega arith)
+    go (membered.Refused g) e h = let z : _≡_ {A = ℕ} 0 1 = cc in absurd (omega arith)
