@@ -4,3 +4,4 @@ pub mod Rightness
 pub mod Meaning
 pub mod Linking
 pub mod Fields
+pub mod Counts

@@ -1,3 +1,4 @@
 pub mod Placed
 pub mod Ends
 pub mod Whole
+pub mod Counting
