@@ -1,8 +1,9 @@
 -- THE PROMISES, as far as they are proved: each stated of the definitions, in the words of the tender.
 use mathlib.Core.Path.{_≡_, _∙_}
 use mathlib.Core.Bool.{Bool, true, false}
-use mathlib.Core.List.{List, []}
-use Prim.Native.Nat.{ℕ, _<_}
+use mathlib.Core.List.{List}
+use mathlib.Core.Option.{Option, none}
+use Prim.Native.Nat.{ℕ, _*_, _<_, _≤_}
 use lib.ListN.{length}
 use Rattle.netlist.specs.Netlist.{Netlist}
 use Rattle.netlist.specs.Rules.{valid}
@@ -10,13 +11,16 @@ use Rattle.netlist.specs.Tables.{Tables, layout}
 use Rattle.netlist.specs.View.{view}
 use Rattle.netlist.specs.Good.{good}
 use Rattle.netlist.proofs.Laying.{Long, Layout, view-layout, good-is, layout-good}
-use Rattle.loadlist.specs.Run.{slotsFrom, outputsIn, assigns}
+use Rattle.loadlist.specs.Records.{listBytes}
+use Rattle.loadlist.specs.Check.{badRecord}
+use Rattle.loadlist.specs.Run.{outputs, assigns}
 use Rattle.placing.specs.Placing.{Ringed, inputBits, outputsFrom, ringed}
 use Rattle.placing.proofs.Rings.{ringed-ring, ring-ringed}
 use Rattle.evaluating.specs.Settled.{Setting, Settled}
 use Rattle.evaluating.proofs.Settles.{settled, settled-is, settled-unique, evaluation-settled}
-use Rattle.translating.specs.Translation.{translation}
-use Rattle.translating.proofs.Whole.{translation-gives}
+use Rattle.translating.specs.Translation.{translation, recordSum}
+use Rattle.translating.proofs.Counting.{translation-count}
+use Rattle.translating.proofs.Passing.{translation-passes, translation-bytes, list-gives}
 
 -- "document 01's good tables": good tables are exactly the layouts of valid netlists, and show the netlist again
 pub good-tables : (T : Tables) → Long T → (good T ≡ true → Layout T) × (Layout T → good T ≡ true)
@@ -30,13 +34,21 @@ module _ (N : Netlist) (v : valid N ≡ true) where
   pub ring-told : (ringed N ≡ true → Ringed N) × (Ringed N → ringed N ≡ true)
   ring-told = (ringed-ring N v, ring-ringed N v)
 
-  module _ (free : ringed N ≡ false) (ins : List ℕ) where
-    -- "the value that the cell rules give the netlist": without a ring there is one setting that every cell's rule keeps, and no other
-    pub one-meaning : Settled N ins (settled N v ins free) × ((u w : Setting) → Settled N ins u → Settled N ins w → (row : ℕ) → row < length (N .cells) → u row ≡ w row)
-    one-meaning = (settled-is N v ins free, settled-unique N v ins free)
+  module _ (free : ringed N ≡ false) where
+    -- "whose list by document 01's sum has at most 8,192 records": the list has 3 plus the table's sum of records, 8 bytes each
+    pub list-count : (length (translation N) ≡ recordSum N) × (length (listBytes (translation N)) ≡ 8 * recordSum N)
+    list-count = (translation-count N v free, translation-bytes N v free)
 
-    -- Demand 3: "For every setting of the input bits to 0, 1 or X, running the list gives at each output bit exactly the value that the
-    -- cell rules give the netlist, X included"
-    pub list-runs-netlist : assigns (inputBits N) ins ≡ true → (u : Setting) → Settled N ins u
-        → outputsIn (translation N) (slotsFrom (translation N) ins []) ≡ outputsFrom u N
-    list-runs-netlist given u s = translation-gives N v free ins given ∙ evaluation-settled N v ins free u s
+    -- and it passes the check of lists
+    pub list-passes : recordSum N ≤ 8192 → badRecord (listBytes (translation N)) ≡ none
+    list-passes = translation-passes N v free
+
+    module _ (ins : List ℕ) where
+      -- "the value that the cell rules give the netlist": without a ring there is one setting that every cell's rule keeps, and no other
+      pub one-meaning : Settled N ins (settled N v ins free) × ((u w : Setting) → Settled N ins u → Settled N ins w → (row : ℕ) → row < length (N .cells) → u row ≡ w row)
+      one-meaning = (settled-is N v ins free, settled-unique N v ins free)
+
+      -- Demand 3: "For every setting of the input bits to 0, 1 or X, running the list gives at each output bit exactly the value that
+      -- the cell rules give the netlist, X included"
+      pub list-runs-netlist : assigns (inputBits N) ins ≡ true → (u : Setting) → Settled N ins u → outputs (listBytes (translation N)) ins ≡ outputsFrom u N
+      list-runs-netlist given u s = list-gives N v free ins given ∙ evaluation-settled N v ins free u s

@@ -66,7 +66,7 @@ gates-silent k [] h = tt
 gates-silent k (r ∷ rs) h = (ne-eqb (r .op) outputOp (omega (arith, h .0 .high)), gates-silent (k + 1) rs (h .1))
 
 -- slots that are made are below the next one
-early-below : (S : List ℕ) (k : ℕ) → k ≡ length S → (xs : List ℕ) → Early S xs → Below k xs
+pub early-below : (S : List ℕ) (k : ℕ) → k ≡ length S → (xs : List ℕ) → Early S xs → Below k xs
 early-below S k e [] h = tt
 early-below S k e (x ∷ xs) h = (omega (arith, h .0), early-below S k e xs (h .1))
 
@@ -101,10 +101,10 @@ module _ (N : Netlist) (v : valid N ≡ true) (free : ringed N ≡ false) (ins :
   ended = order-placing (readsOf N) n (apart N)
 
   -- the slots where inputs and cells are done
-  abbrev inner : List Record
+  abbrev pub inner : List Record
   inner = cellRecords (placingOf N) N (3 + inputBits N) (inputSlots N)
 
-  abbrev made : List ℕ
+  abbrev pub made : List ℕ
   made = slotsFrom inner ins (begun ins)
 
   begun-length : 3 + inputBits N ≡ length (begun ins)
@@ -122,7 +122,7 @@ module _ (N : Netlist) (v : valid N ≡ true) (free : ringed N ≡ false) (ins :
   unfolding ringed
   all-placed j l = placing-marks (readsOf N) n (ended .run) j ∙ all-in (readsOf N) n (apart N) free j l
 
-  outputs-right : Early made (outputsFrom (slotsOf N) N) × (valuesIn made (outputsFrom (slotsOf N) N) ≡ evaluation N ins)
+  pub outputs-right : Early made (outputsFrom (slotsOf N) N) × (valuesIn made (outputsFrom (slotsOf N) N) ≡ evaluation N ins)
   unfolding outputsFrom evaluation
   outputs-right =
       outputs-held made (all-held .constants) (slotsOf N) values (N .cells)
@@ -153,13 +153,16 @@ module _ (N : Netlist) (v : valid N ≡ true) (free : ringed N ≡ false) (ins :
       ∙ outputs-ran ins made [] outs 0 (outputs-right .0)
       ∙ ap₂ (λ (a b : List ℕ). a ++ b) (append-nil made) (outputs-right .1)
 
-  cells-gates : Gates (3 + inputBits N) inner
+  pub cells-gates : Gates (3 + inputBits N) inner
   unfolding placingOf
   cells-gates = placed-gates N v ins bits (ended .run) (λ j t. t) (begun ins) (inputSlots N) (assigned N ins) (3 + inputBits N) begun-length (start-held N ins given)
 
   before-silent : Silent before
   before-silent =
       (refl, (refl, (refl, silent-append (inputRecords (upFrom 0 (inputBits N))) inner (inputs-silent (upFrom 0 (inputBits N))) (gates-silent (3 + inputBits N) inner cells-gates))))
+
+  pub made-length : length made ≡ 3 + inputBits N + length inner
+  made-length = slots-length inner ins (begun ins) ∙ omega (arith, begun-length)
 
   before-length : length made ≡ length before
   before-length = ap length (sym before-ran) ∙ slots-length before ins [] ∙ omega arith
