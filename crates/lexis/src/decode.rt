@@ -12,9 +12,9 @@ use super::pieces::Quoted;
 use super::pieces::quoted_at;
 
 // A byte of a string, and the place past what is written for it.
-struct Meant {
-    byte: u8,
-    end: usize,
+pub struct Meant {
+    pub byte: u8,
+    pub end: usize,
 }
 
 fn hex_value(b: u8) -> u8
@@ -25,7 +25,7 @@ fn hex_value(b: u8) -> u8
 }
 
 // The next byte of a string that means one more.
-fn next_byte(text: &[u8], at: usize) -> Meant
+pub fn next_byte(text: &[u8], at: usize) -> Meant
     requires { ⌜ 0 < length (decoded (now text) at) ⌝ }
     ensures { λ r. ⌜ decoded (now (text .entry)) at ≡ r .byte ∷ decoded (now (text .entry)) (r .end) ⌝ }
 {

@@ -20,7 +20,8 @@ use Rattle.form.specs.Forms.{setForm, pointAt, sourceForm, linkAt, optionAt, sc
 use Rattle.netlist.specs.Runs.{falling, knownBits, cut, longest}
 use Rattle.netlist.specs.Rules.{taken, distinct, namesAs, roomy, metasSound, valid}
 use Rattle.netlist.specs.Good.{laid, good, short, checkOf, ioFrom, lookupOf}
-use Rattle.reading.specs.Values.{rowFrom, copies, operandRuns, operandPieces}
+use Rattle.saying.specs.Values.{rowFrom, copies, operandRuns}
+use Rattle.reading.specs.Pieces.{operandPieces}
 use Rattle.reading.specs.Rules.{saidBy, added, firstMisnamed, ruledOut}
 use Rattle.reading.specs.Reading.{declarationsFrom, firstUnresolved, netlistOf, readSound, reading}
 use Rattle.printing.specs.Decimal.{digits, places, signed}

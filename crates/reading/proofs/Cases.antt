@@ -16,7 +16,8 @@ use Rattle.form.specs.Parts.{nextPart, concatFrom, operandAt, partsFrom, partsA
 use Rattle.form.specs.Forms.{setForm, pointAt, sourceForm, linkAt, optionAt, scopeForm, identForm, attrForm, metaForm, ioForm, operandIf, metaIf, wiringForm, namedForm, cellForm, bodyForm, openForm, formAt, formOf}
 use Rattle.netlist.specs.Runs.{falling, knownBits, cut, longest}
 use Rattle.netlist.specs.Rules.{taken, distinct, namesAs, roomy, metasSound, valid}
-use Rattle.reading.specs.Values.{rowFrom, copies, operandRuns, operandPieces}
+use Rattle.saying.specs.Values.{rowFrom, copies, operandRuns}
+use Rattle.reading.specs.Pieces.{operandPieces}
 use Rattle.reading.specs.Rules.{saidBy, added, firstMisnamed, ruledOut}
 use Rattle.reading.specs.Reading.{declarationsFrom, firstUnresolved, netlistOf, readSound, reading}
 use Rattle.reading.specs.Reading.{Reading, says, refused}

@@ -1,4 +1,4 @@
-pub mod Values
+pub mod Pieces
 pub mod Rules
 pub mod Reading
 pub mod Outcome

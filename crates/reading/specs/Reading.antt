@@ -16,7 +16,8 @@ use Rattle.form.specs.Forms.{formAt}
 use Rattle.form.specs.declared.Form.the-variants as form
 use Rattle.netlist.specs.Netlist.{Run, const, piece, Cell, Netlist}
 use Rattle.netlist.specs.Rules.{resolves, widthsOf}
-use Rattle.reading.specs.Values.{PieceAt, rowOf}
+use Rattle.saying.specs.Values.{rowOf}
+use Rattle.reading.specs.Pieces.{PieceAt}
 use Rattle.reading.specs.Rules.{Sofar, nothing, saidBy, added, ruledOut}
 
 -- the declarations from the place on

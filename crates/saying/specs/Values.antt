@@ -6,7 +6,6 @@ use lib.Dec.{eqb}
 use Rattle.ground.specs.Choice.{pick}
 use Rattle.ground.specs.Lists.{joined}
 use Rattle.ground.specs.Regions.{part}
-use Rattle.ground.specs.declared.Place.{Place}
 use Rattle.lexis.specs.Bytes.{tritOf}
 use Rattle.lexis.specs.Pieces.{decoded}
 use Rattle.form.specs.Parts.{partsAt}
@@ -61,22 +60,6 @@ partBits text (part.Repeated b n) = copies n (baseBits text b)
 
 unfoldable pub operandRuns : List ℕ → Operand → List Run
 operandRuns text o = cut (joined (λ p. partBits text (p .part)) (partsAt text o))
-
--- the pieces of an operand as the text has them, each with its place: zero-width and zero-times ones too
-pub record PieceAt : Type 0 where
-  pub piece : Piece
-  pub place : Place
-
-abbrev basePieces : Place → Base → List PieceAt
-basePieces k (base.Constant s) = []
-basePieces k (base.Cell p) = record { piece = p; place = k } ∷ []
-
-abbrev pub baseIn : Part → Base
-baseIn (part.One b) = b
-baseIn (part.Repeated b n) = b
-
-unfoldable pub operandPieces : List ℕ → Operand → List PieceAt
-operandPieces text o = joined (λ p. basePieces (p .place) (baseIn (p .part))) (partsAt text o)
 
 -- METADATA
 abbrev pub meta : ℕ → List ℕ → List ℕ → List ℕ → List ℕ → ℕ → ℕ → ℕ → Meta
