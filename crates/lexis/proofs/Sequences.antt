@@ -5,10 +5,10 @@ use mathlib.Core.List.{List, [], _∷_}
 use mathlib.Core.Option.{Option, none, some}
 use Prim.Native.Nat.{ℕ, suc, _+_, _-_, _<_, _≤_}
 use native.Mathlib.Omega.{arith}
-use lib.Dec.{T, eqb, eqb→eq}
+use lib.Dec.{T, eqb, ltb, eqb→eq}
 use lib.ListN.{length, drop, getD}
-use borrow.Author.Tests.{lt-ltb, le-ltb, eq-eqb, ne-eqb}
-use Rattle.ground.proofs.Bools.{and-first, and-second}
+use borrow.Author.Tests.{lt-ltb, le-ltb, ltb-true, ltb-false, eq-eqb, ne-eqb}
+use Rattle.ground.proofs.Bools.{bool-cases, and-first, and-second}
 use Rattle.ground.proofs.Outcome.{any-two}
 use Rattle.ground.proofs.Rest.{rest-cons, rest-end}
 use Rattle.ground.proofs.Regions.{length-zeros}
@@ -19,7 +19,7 @@ use Rattle.lexis.specs.Bytes.{Range}
 use Rattle.lexis.specs.Whole.{sequences, tailOf, lacksPast, beganAt, badFrom, badAt, endsInFeed, unsound, wholeOf}
 use Rattle.lexis.specs.Modes.{lack, lacking, meant}
 use Rattle.lexis.specs.declared.Whole.{Whole}
-use Rattle.lexis.specs.declared.Whole.the-variants.{Sound}
+use Rattle.lexis.specs.declared.Whole.the-variants.{Sound, Unsound}
 
 -- equality of tails as a test, so that it can be computed over many bytes
 abbrev sameRanges : List Range → List Range → Bool
@@ -128,6 +128,16 @@ module _ (s : List ℕ) where
 
     pub whole-unfed : 0 < length s → (getD s (length s - 1) 0 ≡ 10 → ⊥) → wholeOf s ≡ unsound 4 (length s)
     whole-unfed l f = whole-end false (ends-in s l ∙ ne-eqb _ _ f)
+
+abbrev isSound : Whole → ℕ
+isSound Sound = 1
+isSound (Unsound g) = 0
+
+-- a text that is sound as a whole is not too long
+pub sound-short : (s : List ℕ) → wholeOf s ≡ Sound → length s ≤ 65536
+sound-short s e = bool-cases (ltb 65536 (length s))
+    (λ h. let z : _≡_ {A = ℕ} 0 1 = ap isSound (sym (whole-long s (ltb-true 65536 (length s) h)) ∙ e) in absurd (omega arith))
+    (λ h. ltb-false 65536 (length s) h)
 
 -- the contract of `whole` allows one outcome
 pub whole-one : (text : List ℕ) (o p : Whole) → o ≡ wholeOf text → p ≡ wholeOf text → o ≡ p
