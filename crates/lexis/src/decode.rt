@@ -54,7 +54,7 @@ fn put(room: &mut [u8], at: usize, b: u8)
 }
 
 // The `size` bytes of the string, into the room from its start on.
-fn fill(text: &[u8], from: usize, size: usize, room: &mut [u8])
+pub fn fill(text: &[u8], from: usize, size: usize, room: &mut [u8])
     requires { ⌜ size ≡ length (decoded (now text) from) ⌝ }
     ensures { λ r. ⌜ now (room .exit) ≡ sets (now (room .entry)) 0 (decoded (now (text .entry)) from) ⌝ }
 {

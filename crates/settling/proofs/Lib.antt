@@ -1,0 +1,4 @@
+pub mod Middle
+pub mod Strings
+pub mod Left
+pub mod Metas
