@@ -2,3 +2,5 @@ pub mod Middle
 pub mod Strings
 pub mod Left
 pub mod Metas
+pub mod Ios
+pub mod CellRows

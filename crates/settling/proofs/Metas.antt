@@ -42,7 +42,7 @@ pub metas-start : (text : List ℕ) (ns : List MetaNote) (n : ℕ) (metas string
 unfolding pad
 metas-start text ns n metas strings so p q r d =
     let e : length (joined metaNote ns) ≡ length (metaRows 0 0 0 (metasSaid ns)) =
-        length-notes ns ∙ ap (λ (k : ℕ). k * 16) (sym (length-mapped (λ (x : MetaNote). x .meta) ns)) ∙ sym (length-metaRows 0 0 0 (metasSaid ns)) in
+    length-notes ns ∙ ap (λ (k : ℕ). k * 16) (sym (length-mapped (λ (x : MetaNote). x .meta) ns)) ∙ sym (length-metaRows 0 0 0 (metasSaid ns)) in
     record {
       rest = ns;
       rows = record {
@@ -69,7 +69,7 @@ module _ (text strings : List ℕ) (so : Starts) (long : length strings ≡ 1638
   here x xs a b c p q =
       let m = x .meta in
       let l : length (metaStrings (metasSaid (x ∷ xs))) ≡ length (m .name) + length (m .text) + length (metaStrings (metasSaid xs)) =
-          length-append (m .name ++ m .text) (metaStrings (metasSaid xs)) ∙ omega (arith, length-append (m .name) (m .text)) in
+      length-append (m .name ++ m .text) (metaStrings (metasSaid xs)) ∙ omega (arith, length-append (m .name) (m .text)) in
       record {
         long = refl;
         name = ap length (p .is);

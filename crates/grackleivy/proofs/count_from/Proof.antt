@@ -27,6 +27,7 @@ add-left c = search needs
 -- src/lib.rt:81:5
 loop-holds : tie.Need-loop-holds Inv-loop μ-loop
 loop-holds c = (omega arith, omega arith, refl)
+
 -- src/lib.rt:83:24
 next-with-requires : tie.Need-next-with-requires Inv-loop μ-loop
 next-with-requires c κs = search needs
@@ -46,6 +47,7 @@ refused-at-requires c κs = search needs
 -- src/lib.rt:85:17
 returns : tie.Need-returns Inv-loop μ-loop
 returns c = let p = c .before .before .before .before .before .before .before in let told = sym (c .before .before .before .before .moved-by .ensures ∙ ap movedBy (c .before .before .before .before .before .next-with .ensures)) ∙ c .before .before .g .given .1 in c .refused-at .ensures ∙ count-stopped (p .loop .left) (p .before .before .args .text .now) (p .loop .tokens) (p .loop .at) (c .before .before .before .before .before .before .loop-test .taken) _ told ∙ p .loop .inv .2
+
 -- src/lib.rt:88:17
 enum-told : tie.Need-enum-told Inv-loop μ-loop
 enum-told c = search needs
@@ -57,6 +59,7 @@ counted-to-requires c κs = search needs
 -- src/lib.rt:88:17
 returns-2 : tie.Need-returns-2 Inv-loop μ-loop
 returns-2 c = let p = c .before .before .before .before .before .before in let told = sym (c .before .before .before .moved-by .ensures ∙ ap movedBy (c .before .before .before .before .next-with .ensures)) ∙ c .before .enum-told .given .1 in c .counted-to .ensures ∙ count-ended (p .loop .left) (p .before .before .args .text .now) (p .loop .tokens) (p .loop .at) (c .before .before .before .before .before .loop-test .taken) told ∙ p .loop .inv .2
+
 -- src/lib.rt:90:23
 enum-known-k : tie.Need-enum-known-k Inv-loop μ-loop
 enum-known-k c = search needs
@@ -76,6 +79,7 @@ loop-less c = search needs
 -- src/lib.rt:81:5
 loop-again : tie.Need-loop-again Inv-loop μ-loop
 loop-again c = let p = c .before .before .before .before .before .before in let told = sym (c .before .before .before .moved-by .ensures ∙ ap movedBy (c .before .before .before .before .next-with .ensures)) ∙ c .before .k .given .1 in (omega arith, omega arith, count-on (p .loop .left) (p .before .before .args .text .now) (p .loop .tokens) (p .loop .at) (c .before .before .before .before .before .loop-test .taken) _ told ∙ p .loop .inv .2)
+
 -- src/lib.rt:97:5
 counted-to-requires-2 : tie.Need-counted-to-requires-2 Inv-loop μ-loop
 counted-to-requires-2 c κs = search needs
@@ -83,6 +87,7 @@ counted-to-requires-2 c κs = search needs
 -- src/lib.rt:74:1
 returns-3 : tie.Need-returns-3 Inv-loop μ-loop
 returns-3 c = let p = c .before .before in c .counted-to2 .ensures ∙ count-none (p .loop .left) (p .before .before .args .text .now) (p .loop .tokens) (p .loop .at) (c .before .loop-test .left) ∙ p .loop .inv .2
+
 pub count-from-spec : {M : Type 1} → statement M
 count-from-spec =
     tie.close

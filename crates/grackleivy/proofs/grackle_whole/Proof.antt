@@ -24,9 +24,11 @@ cast-t5 c = search needs
 -- src/lib.rt:101:1
 returns : tie.Need-returns
 returns c = rw (← c .before .before .whole .ensures, c .enum-told .given .1)
+
 -- src/lib.rt:101:1
 returns-2 : tie.Need-returns-2
 returns-2 c = rw (← c .before .before .before .before .whole .ensures, c .before .before .g .given .1)
+
 pub grackle-whole-spec : {M : Type 1} → statement M
 grackle-whole-spec =
     tie.close (tie.spec whole-requires enum-told enum-known-g cast-t5 returns returns-2)

@@ -16,11 +16,14 @@ enum-known-step-2 c = search needs
 -- src/lib.rt:66:17
 returns : tie.Need-returns
 returns c = rw (c .before .before .before .step2 .given .1, eq-eqb _ 1 (c .if1 .taken))
+
 -- src/lib.rt:59:1
 returns-2 : tie.Need-returns-2
 returns-2 c = rw (c .before .step .given .1)
+
 -- src/lib.rt:59:1
 returns-3 : tie.Need-returns-3
 returns-3 c = rw (c .before .before .before .step2 .given .1, ne-eqb _ 1 (c .if1 .left))
+
 pub moved-by-spec : {M : Type 1} → statement M
 moved-by-spec = tie.close (tie.spec enum-known-step enum-known-step-2 returns returns-2 returns-3)

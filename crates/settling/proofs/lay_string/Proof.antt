@@ -65,8 +65,7 @@ returns-2 c =
     let p = c .before .before .before .before .before .before .before .before .before .before in
     let a = p .args in
     let w = c .before .before .before .before .before .before .wide in
-    let at : c .before .before .before .before .before .wide2 .result ≡ a .at = c .before .before .before .before .before .wide2 .ensures .0 in
-    (
+    let at : c .before .before .before .before .before .wide2 .result ≡ a .at = c .before .before .before .before .before .wide2 .ensures .0 in (
       ap (λ (k : ℕ). a .s + k) (w .ensures .0),
       string-laid (a .text .now) (a .at) (a .size) (a .strings .now) _ (a .s) (a .s + w .result) (c .before .before .before .before .before .before .before .if1 .left) (p .pre .0) (ap (λ (k : ℕ). a .s + k) (w .ensures .0)) (p .pre .1) (rw at at (c .before .before .fill .ensures)),
     )

@@ -102,8 +102,7 @@ same-length-2 c = search needs
 returns : tie.Need-returns
 returns c =
     let first = c .before .before .before .before .before .before .before .before .before .before .before .before .before .before .before .before .lay-string in
-    let second = c .before .before .before .before .before .before .before .before .before .before .lay-string2 in
-    (
+    let second = c .before .before .before .before .before .before .before .before .before .before .lay-string2 in (
       rw (c .word4 .ensures, c .before .word3 .ensures, c .before .before .word2 .ensures, c .before .before .before .word .ensures, first .ensures .0),
       second .ensures .1 ∙ rw (first .ensures .1, first .ensures .0),
       rw (second .ensures .0, first .ensures .0, c .before .before .before .before .before .before .wide .ensures .0, c .before .before .before .before .wide2 .ensures .0),

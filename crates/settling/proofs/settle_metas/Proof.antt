@@ -66,8 +66,7 @@ loop-again : tie.Need-loop-again Inv-loop μ-loop
 loop-again c = let a = c .before .before .before .before .before .before .before .before .before .before .before .before .args in
     let l = c .before .before .before .before .before .before .before .before .loop in
     let m = c .before .before .before .before .settle-meta in
-    let w : (l .i * 16 + 16) - l .i * 16 ≡ 16 = omega arith in
-    (
+    let w : (l .i * 16 + 16) - l .i * 16 ≡ 16 = omega arith in (
       omega arith,
       search (needs, l .inv .1),
       search (needs, l .inv .2),
