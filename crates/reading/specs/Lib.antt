@@ -1,4 +1,2 @@
-pub mod Pieces
-pub mod Rules
 pub mod Reading
 pub mod Outcome

@@ -1,2 +1,4 @@
 pub mod Values
+pub mod Pieces
+pub mod Rules
 pub mod Notes

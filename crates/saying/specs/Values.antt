@@ -1,5 +1,5 @@
 -- What a declaration says, as a value: strings decoded, references as rows, operands as longest runs over the author's numbers.
-use Prim.Native.Nat.{ℕ, zero, suc, _+_}
+use Prim.Native.Nat.{ℕ, zero, suc, _+_, _-_}
 use mathlib.Core.Bool.{Bool, true, false}
 use mathlib.Core.List.{List, [], _∷_, _++_, map}
 use lib.Dec.{eqb}
@@ -22,7 +22,7 @@ use Rattle.form.specs.declared.Label.the-variants as label
 use Rattle.form.specs.declared.Payload.{Payload}
 use Rattle.form.specs.declared.Payload.the-variants as payload
 use Rattle.form.specs.declared.Range.{Range}
-use Rattle.netlist.specs.Netlist.{Run, Meta, Cell, sourceMeta, scopeMeta, indexedMeta, bitsMeta, integerMeta, stringMeta}
+use Rattle.netlist.specs.Netlist.{Run, const, piece, Meta, Cell, sourceMeta, scopeMeta, indexedMeta, bitsMeta, integerMeta, stringMeta}
 use Rattle.netlist.specs.Runs.{Bit, falling, knownBits, cut}
 
 -- the row of an author's number plus one; 0 where it is not declared
@@ -82,3 +82,19 @@ attrOf text name (payload.Text s) = meta stringMeta name (stringIn text s) [] []
 -- CELLS
 abbrev pub nameIn : List ℕ → Bool → Str → List ℕ
 nameIn text named s = pick named (stringIn text s) []
+
+-- the author's cell numbers become rows
+abbrev pub rowRun : List ℕ → Run → Run
+rowRun numbers (const ts) = const ts
+rowRun numbers (piece n o w) = piece (rowOf numbers n - 1) o w
+
+abbrev pub rowCell : List ℕ → Cell → Cell
+rowCell numbers c = record {
+  kind = c .kind;
+  width = c .width;
+  name = c .name;
+  meta = c .meta;
+  a = map (rowRun numbers) (c .a);
+  b = map (rowRun numbers) (c .b);
+  c = map (rowRun numbers) (c .c);
+}

@@ -17,8 +17,8 @@ use Rattle.form.specs.declared.Decl.the-variants as decl
 use Rattle.form.specs.declared.Declared.{Declared}
 use Rattle.netlist.specs.Netlist.{Meta, Io, Cell, Netlist, setMeta, identMeta, isScope}
 use Rattle.netlist.specs.Rules.{taken, ioNames, namesAs, refers, isMember, isSource, anyKind, isEmpty, complete, attrWidth, cellWidth, roomy}
 use Rattle.saying.specs.Values.{rowOf, refRow, stringIn, nameIn, operandRuns, meta, sourceOf, scopeOf, attrOf}
-use Rattle.reading.specs.Pieces.{PieceAt, operandPieces}
+use Rattle.saying.specs.Pieces.{PieceAt, operandPieces}
 
 -- what the text says so far: the netlist with the author's numbers in its pieces, those numbers by row, and all pieces in text order
 pub record Sofar : Type 0 where
