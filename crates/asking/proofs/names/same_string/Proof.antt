@@ -1,0 +1,57 @@
+-- What is left of the two strings is the same where the whole strings are.
+use Prim.Native.Nat.{_-_}
+use mathlib.Core.Path.{_≡_, refl, sym, _∙_}
+use native.Mathlib.Omega.{arith}
+use lib.ListN.{length}
+use Rattle.ground.specs.Text.{same}
+use Rattle.lexis.specs.Pieces.{decoded}
+use Rattle.asking.proofs.NameLaws.{same-on, same-off, same-none, tail-length}
+use borrow.Author.Needs.{needs}
+use Rattle.asking.proofs.names.same_string.Statement.{statement}
+use Rattle.asking.proofs.names.same_string.Tie as tie
+
+abbrev Inv-loop : tie.InvT-loop
+Inv-loop text a b size left₀ i₀ j₀ left i j = (left ≡ length (decoded text i)) × (left ≡ length (decoded text j)) × (same (decoded text i) (decoded text j) ≡ same (decoded text a) (decoded text b))
+
+abbrev μ-loop : tie.MeasureT-loop
+μ-loop text a b size left₀ i₀ j₀ left i j = left
+
+loop-holds : tie.Need-loop-holds Inv-loop μ-loop
+loop-holds c = (c .before .pre .0, c .before .pre .1, refl)
+
+next-byte-requires : tie.Need-next-byte-requires Inv-loop μ-loop
+next-byte-requires c κs = let p = c .before in omega (arith, p .loop .inv .0)
+
+next-byte-requires-2 : tie.Need-next-byte-requires-2 Inv-loop μ-loop
+next-byte-requires-2 c κs = let p = c .before .before in omega (arith, p .loop .inv .1)
+
+returns : tie.Need-returns Inv-loop μ-loop
+returns c = let p = c .before .before .before .before .before .before in let q = c .before .before .before in same-off _ _ _ _ _ _ (q .before .next-byte .ensures) (q .next-byte2 .ensures) (c .if1 .taken) ∙ p .loop .inv .2
+
+sub-left : tie.Need-sub-left Inv-loop μ-loop
+sub-left c = search needs
+
+loop-less : tie.Need-loop-less Inv-loop μ-loop
+loop-less c = search needs
+
+loop-again : tie.Need-loop-again Inv-loop μ-loop
+loop-again c = let p = c .before .before .before .before .before .before in let q = c .before .before .before in
+    (tail-length (p .loop .left) _ _ _ (q .before .next-byte .ensures) (p .loop .inv .0), tail-length (p .loop .left) _ _ _ (q .next-byte2 .ensures) (p .loop .inv .1), same-on _ _ _ _ _ _ (q .before .next-byte .ensures) (q .next-byte2 .ensures) (c .if1 .left) ∙ p .loop .inv .2)
+
+returns-2 : tie.Need-returns-2 Inv-loop μ-loop
+returns-2 c = let p = c .before in same-none _ _ (omega (arith, p .loop .inv .0)) (omega (arith, p .loop .inv .1)) ∙ p .loop .inv .2
+
+pub same-string-spec : {M : Type 1} → statement M
+same-string-spec =
+    tie.close
+    (tie.spec
+    Inv-loop
+    μ-loop
+    loop-holds
+    next-byte-requires
+    next-byte-requires-2
+    returns
+    sub-left
+    loop-less
+    loop-again
+    returns-2)
