@@ -1,8 +1,16 @@
 // Names declared twice: a name of the text beside those of the noted rows.
 ghost use mathlib.Core.Path.{_≡_};
-ghost use lib.ListN.{length};
+ghost use mathlib.Core.List.{List};
+ghost use Prim.Native.Nat.{_+_, _*_, _≤_};
+ghost use lib.ListN.{length, drop, getD};
+ghost use Rattle.ground.specs.Lists.{joined};
+ghost use Rattle.ground.specs.Regions.{pad};
 ghost use Rattle.ground.specs.Text.{same};
 ghost use Rattle.lexis.specs.Pieces.{decoded};
+ghost use Rattle.netlist.specs.Rules.{taken, ioNames, namesAs};
+ghost use Rattle.saying.specs.Notes.{IoNote, CellNote, ioNote, cellNote, iosSaid, cellsSaid, SpellIos, SpellCells};
+ghost use Rattle.asking.specs.Namesakes.{namesake, ioNamesake, cellNamesake, Sized, IosNoted, CellsNoted};
+use crate::word_at;
 use lexis::decode::next_byte;
 
 // Whether two strings of the text that mean `size` bytes each mean the same.
@@ -24,4 +32,71 @@ pub fn same_string(text: &[u8], a: usize, b: usize, size: usize) -> bool
         left -= 1;
     }
     true
+}
+
+// Whether the noted name of `long` bytes is the name of `size` bytes; names of other sizes are never compared.
+fn is_namesake(text: &[u8], from: usize, size: usize, at: usize, long: usize) -> bool
+    requires { ⌜ (size ≡ length (decoded (now text) from)) × Sized (now text) at long ⌝ }
+    ensures { λ r. ⌜ r ≡ namesake (now (text .entry)) from size at long ⌝ }
+{
+    if long == size {
+        if size == 0 {
+            return true;
+        }
+        return same_string(text, from, at, size);
+    }
+    false
+}
+
+fn io_named(text: &[u8], ios: &[u32], i: usize, from: usize, size: usize) -> bool
+    requires { ⌜ (i * 3 + 3 ≤ length (now ios)) × (size ≡ length (decoded (now text) from)) × Sized (now text) (getD (drop (i * 3) (now ios)) 0 0) (getD (drop (i * 3) (now ios)) 1 0) ⌝ }
+    ensures { λ r. ⌜ r ≡ ioNamesake (now (text .entry)) from size (drop (i * 3) (now (ios .entry))) ⌝ }
+{
+    let row = i * 3;
+    let at = word_at(ios, row) as usize;
+    let long = word_at(ios, row + 1) as usize;
+    is_namesake(text, from, size, at, long)
+}
+
+// Whether one of the first n noted I/O rows has the name of `size` bytes that the text spells from the place on.
+pub fn io_taken(text: &[u8], ios: &[u32], n: usize, from: usize, size: usize) -> bool
+    requires { ⌜ IosNoted (now text) (now ios) n × (size ≡ length (decoded (now text) from)) ⌝ }
+    ensures { λ r. ⌜ ((ns : List IoNote) → now (ios .entry) ≡ pad 192 (joined ioNote ns) → n ≡ length ns → SpellIos (now (text .entry)) ns → r ≡ taken (decoded (now (text .entry)) from) (ioNames (iosSaid ns))) ⌝ }
+{
+    let mut i = 0;
+    while i < n {
+        if io_named(text, ios, i, from, size) {
+            return true;
+        }
+        i += 1;
+    }
+    false
+}
+
+fn cell_named(text: &[u8], cells: &[u32], i: usize, kind: u8, from: usize, size: usize) -> bool
+    requires { ⌜ (i * 9 + 9 ≤ length (now cells)) × (size ≡ length (decoded (now text) from)) × Sized (now text) (getD (drop (i * 9) (now cells)) 2 0) (getD (drop (i * 9) (now cells)) 3 0) ⌝ }
+    ensures { λ r. ⌜ r ≡ cellNamesake (now (text .entry)) kind from size (drop (i * 9) (now (cells .entry))) ⌝ }
+{
+    let row = i * 9;
+    if word_at(cells, row) == (kind as u32) {
+        let at = word_at(cells, row + 2) as usize;
+        let long = word_at(cells, row + 3) as usize;
+        return is_namesake(text, from, size, at, long);
+    }
+    false
+}
+
+// Whether one of the first n noted cells is of the kind and has the name.
+pub fn cell_taken(text: &[u8], cells: &[u32], n: usize, kind: u8, from: usize, size: usize) -> bool
+    requires { ⌜ CellsNoted (now text) (now cells) n × (size ≡ length (decoded (now text) from)) ⌝ }
+    ensures { λ r. ⌜ ((ns : List CellNote) → now (cells .entry) ≡ pad 4608 (joined cellNote ns) → n ≡ length ns → SpellCells (now (text .entry)) ns → r ≡ taken (decoded (now (text .entry)) from) (namesAs kind (cellsSaid ns))) ⌝ }
+{
+    let mut i = 0;
+    while i < n {
+        if cell_named(text, cells, i, kind, from, size) {
+            return true;
+        }
+        i += 1;
+    }
+    false
 }
