@@ -1,2 +1,4 @@
+pub mod IndexLaws
 pub mod NameLaws
+pub mod RefLaws
 pub mod RowLaws

@@ -1,1 +1,2 @@
 pub mod Namesakes
+pub mod References

@@ -2,9 +2,25 @@
 // metadata reference names (rule 10), whether a range is bad (rule 11). It promises that each answer is the one that the rules of
 // the netlist give of what the notes say. The notes stand below it, reading above.
 pub mod names;
+pub mod refs;
 
+use ground::Place;
 ghost use mathlib.Core.Path.{_≡_};
 ghost use lib.ListN.{getD};
+
+// What a reference may name: metadata of any kind, of any but a set, a scope, or a source.
+pub enum Asks {
+    Any,
+    Member,
+    Scope,
+    Source,
+}
+
+// The place of the first reference that names nothing, or nothing that it may name.
+pub enum Misnaming {
+    At(Place),
+    Nowhere,
+}
 
 // A word of a table; 0 past its end.
 fn word_at(table: &[u32], at: usize) -> u32
