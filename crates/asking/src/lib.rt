@@ -2,6 +2,7 @@
 // metadata reference names (rule 10), whether a range is bad (rule 11). It promises that each answer is the one that the rules of
 // the netlist give of what the notes say. The notes stand below it, reading above.
 pub mod names;
+pub mod ranges;
 pub mod refs;
 
 use ground::Place;
