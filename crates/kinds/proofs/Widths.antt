@@ -1,13 +1,14 @@
 -- What the width rules give of every kind.
-use mathlib.Core.Path.{_≡_}
+use mathlib.Core.Path.{_≡_, refl}
 use mathlib.Core.Bool.{Bool, true, false, _&&_}
 use Prim.Native.Nat.{ℕ, _+_, _<_, _≤_}
 use Prim.Native.String.{String}
 use native.Mathlib.Omega.{arith}
 use lib.Dec.{eqb, leb}
-use borrow.Author.Tests.{eqb-true, leb-true}
+use borrow.Author.Tests.{eqb-true, eqb-false, leb-true}
 use Rattle.ground.specs.Choice.{pick}
-use Rattle.ground.proofs.Bools.{and-true}
+use Rattle.ground.proofs.Bools.{and-true, bool-cases}
+use Rattle.ground.proofs.Outcome.{any-two}
 use Rattle.kinds.specs.Kinds.{Kind, wide, input, output, alike, allAlike, compared, buf, inverter, gate, mux, adc, eq, less, noKind, kindAt}
 
 -- a fact of both ways of a choice holds of the choice
@@ -87,3 +88,32 @@ bounded n =
     (λ w a b c f. compared-bounded w a b c (f .widths) (f .third (omega arith)))
     (λ v w a b c f. compared-bounded w a b c (f .widths) (f .third (omega arith)))
     (λ w a b c f. omega (arith, f .first (omega arith), f .second (omega arith), f .third (omega arith))) n
+
+-- THE RULES as the code tests them
+pub and-more : (x y z : Bool) → x && (y && z) ≡ (x && y) && z
+and-more true y z = refl
+and-more false y z = refl
+
+pub and-none : (x : Bool) → false ≡ x && false
+and-none true = refl
+and-none false = refl
+
+-- the rules of the kinds that share one, by their numbers
+module _ (w a b c : ℕ) where
+  pub alike-at : (n : ℕ) → 3 ≤ n → n < 5 → alike w a b c ≡ kindAt n .widths w a b c
+  unfolding kindAt
+  alike-at n h l = bool-cases (eqb n 3) (λ e. rw (eqb-true n 3 e)) (λ e. let m : n ≡ 4 = (let d = eqb-false n 3 e in omega arith) in rw m)
+
+  pub gate-at : (n : ℕ) → 5 ≤ n → n < 8 → allAlike w a b c ≡ kindAt n .widths w a b c
+  unfolding kindAt
+  gate-at n h l = bool-cases (eqb n 5) (λ e. rw (eqb-true n 5 e)) (λ e. bool-cases (eqb n 6) (λ f. rw (eqb-true n 6 f))
+      (λ f. let m : n ≡ 7 = (let d = eqb-false n 5 e in let g = eqb-false n 6 f in omega arith) in rw m))
+
+  pub compared-at : (n : ℕ) → 10 ≤ n → n < 13 → compared w a b c ≡ kindAt n .widths w a b c
+  unfolding kindAt
+  compared-at n h l = bool-cases (eqb n 10) (λ e. rw (eqb-true n 10 e)) (λ e. bool-cases (eqb n 11) (λ f. rw (eqb-true n 11 f))
+      (λ f. let m : n ≡ 12 = (let d = eqb-false n 10 e in let g = eqb-false n 11 f in omega arith) in rw m))
+
+-- the contract of `fits` allows one answer
+pub one-fit : (w a b c n : ℕ) (o p : Bool) → o ≡ kindAt n .widths w a b c → p ≡ kindAt n .widths w a b c → o ≡ p
+one-fit w a b c = any-two (λ n. kindAt n .widths w a b c)
