@@ -1,0 +1,6 @@
+pub mod Melding
+pub mod Keeping
+pub mod Joining
+pub mod Copying
+pub mod Adding
+pub mod Turning
