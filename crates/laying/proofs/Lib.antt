@@ -4,3 +4,5 @@ pub mod Joining
 pub mod Copying
 pub mod Adding
 pub mod Turning
+pub mod Inside
+pub mod Walking

@@ -5,6 +5,23 @@ mod parts;
 mod rows;
 mod trits;
 
+use form::Operand;
+use form::Walked;
+use form::Wiring;
+use form::walks::walk_of;
+use form::walks::walk_step;
+use parts::add_part;
+ghost use mathlib.Core.Path.{_≡_};
+ghost use mathlib.Core.List.{List};
+ghost use Prim.Native.Nat.{_+_, _≤_};
+ghost use lib.ListN.{length};
+ghost use Rattle.lexis.specs.Bytes.{table};
+ghost use Rattle.form.specs.Parts.{partsAt};
+ghost use Rattle.form.proofs.Sums.{widths};
+ghost use Rattle.netlist.specs.Netlist.{Run};
+ghost use Rattle.saying.specs.Values.{operandRuns};
+ghost use Rattle.laying.specs.Holding.{Holds, Held, After, CellAfter};
+
 // How many run rows and run trits are in use.
 pub struct Laid {
     pub runs: usize,
@@ -28,4 +45,33 @@ pub struct Counts {
 pub enum CellLaying {
     Laid(Counts),
     Full,
+}
+
+// The operand's runs behind those in use.
+pub fn lay_operand(
+    t: &[u8; 256],
+    text: &[u8],
+    operand: Operand,
+    runs: &mut [u32],
+    trits: &mut [u8],
+    so: Laid,
+) -> Laying
+    requires { ⌜ (now t ≡ table) × (length (now text) ≤ 65536) × Held (now runs) (now trits) so × (widths (partsAt (now text) operand) ≤ 256) × (so .trits + widths (partsAt (now text) operand) ≤ 262656) ⌝ }
+    ensures { λ r. ⌜ ((rs : List Run) → Holds rs (now (runs .entry)) (now (trits .entry)) so → After rs (operandRuns (now (text .entry)) operand) r (now (runs .exit)) (now (trits .exit))) ⌝ }
+{
+    let first = so.runs;
+    let mut used = so;
+    let mut walk = walk_of(t, text, operand);
+    loop {
+        let step = walk_step(t, text, walk);
+        let Walked::Part(part, _, next) = step else {
+            return Laying::Laid(used);
+        };
+        let added = add_part(t, text, part, runs, trits, first, used);
+        let Laying::Laid(more) = added else {
+            return Laying::Full;
+        };
+        used = more;
+        walk = next;
+    }
 }
