@@ -6,3 +6,4 @@ pub mod Adding
 pub mod Turning
 pub mod Inside
 pub mod Walking
+pub mod Counting

@@ -1,9 +1,12 @@
 -- Runs in the run rows and the run trits of the tables, and what laying an operand or a cell leaves there.
 use mathlib.Core.Path.{_≡_}
 use mathlib.Core.List.{List, _++_}
-use Prim.Native.Nat.{ℕ, _≤_, _<_}
+use Prim.Native.Nat.{ℕ, _+_, _≤_, _<_}
 use lib.ListN.{length}
 use Rattle.ground.specs.Regions.{pad}
+use Rattle.form.specs.Parts.{partsAt}
+use Rattle.form.specs.declared.Wiring.{Wiring}
+use Rattle.form.proofs.Sums.{widths}
 use Rattle.netlist.specs.Netlist.{Run, runBitsOf}
 use Rattle.netlist.specs.Tables.{runRows}
 use Rattle.laying.specs.declared.Laid.{Laid}
@@ -30,6 +33,13 @@ pub record Held (runs trits : List ℕ) (so : Laid) : Type 0 where
 abbrev pub After : List Run → List Run → Laying → List ℕ → List ℕ → Type 0
 After rs new (laying.Laid so) runs trits = Holds (rs ++ new) runs trits so
 After rs new laying.Full runs trits = 4096 < length (rs ++ new)
+
+-- the three operands of a cell are no wider than an operand may be, and there is room for their trits
+pub record Room (text : List ℕ) (w : Wiring) (so : Laid) : Type 0 where
+  pub a : widths (partsAt text (w .a)) ≤ 256
+  pub b : widths (partsAt text (w .b)) ≤ 256
+  pub c : widths (partsAt text (w .c)) ≤ 256
+  pub all : so .trits + (widths (partsAt text (w .a)) + widths (partsAt text (w .b)) + widths (partsAt text (w .c))) ≤ 262656
 
 -- the runs of three operands, with the number of each
 pub record Counted (rs ra rb rc : List Run) (n : Counts) (runs trits : List ℕ) : Type 0 where

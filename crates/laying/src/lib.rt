@@ -20,7 +20,7 @@ ghost use Rattle.form.specs.Parts.{partsAt};
 ghost use Rattle.form.proofs.Sums.{widths};
 ghost use Rattle.netlist.specs.Netlist.{Run};
 ghost use Rattle.saying.specs.Values.{operandRuns};
-ghost use Rattle.laying.specs.Holding.{Holds, Held, After, CellAfter};
+ghost use Rattle.laying.specs.Holding.{Holds, Held, After, Room, CellAfter};
 
 // How many run rows and run trits are in use.
 pub struct Laid {
@@ -74,4 +74,39 @@ pub fn lay_operand(
         used = more;
         walk = next;
     }
+}
+
+// The runs of a cell's three operands, in order, behind those in use.
+pub fn lay_cell(
+    t: &[u8; 256],
+    text: &[u8],
+    w: Wiring,
+    runs: &mut [u32],
+    trits: &mut [u8],
+    so: Laid,
+) -> CellLaying
+    requires { ⌜ (now t ≡ table) × (length (now text) ≤ 65536) × Held (now runs) (now trits) so × Room (now text) w so ⌝ }
+    ensures { λ r. ⌜ ((rs : List Run) → Holds rs (now (runs .entry)) (now (trits .entry)) so → CellAfter rs (operandRuns (now (text .entry)) (w .a)) (operandRuns (now (text .entry)) (w .b)) (operandRuns (now (text .entry)) (w .c)) r (now (runs .exit)) (now (trits .exit))) ⌝ }
+{
+    let a = w.a;
+    let b = w.b;
+    let c = w.c;
+    let first = lay_operand(t, text, a, runs, trits, so);
+    let Laying::Laid(one) = first else {
+        return CellLaying::Full;
+    };
+    let second = lay_operand(t, text, b, runs, trits, one);
+    let Laying::Laid(two) = second else {
+        return CellLaying::Full;
+    };
+    let third = lay_operand(t, text, c, runs, trits, two);
+    let Laying::Laid(all) = third else {
+        return CellLaying::Full;
+    };
+    CellLaying::Laid(Counts {
+        a: one.runs - so.runs,
+        b: two.runs - one.runs,
+        c: all.runs - two.runs,
+        so: all,
+    })
 }
