@@ -1,12 +1,13 @@
 -- What reading notes of a row before the netlist is laid. A note's row is the row of docs/LAYOUT.md with the place in the text where a
 -- string begins for that string's start, and 0 for every other start; starts follow when all is read.
 use mathlib.Core.Path.{_≡_}
-use Prim.Native.Nat.{ℕ, _<_}
+use Prim.Native.Nat.{ℕ, _+_, _<_}
 use mathlib.Core.List.{List, [], _∷_, map}
 use lib.Dec.{eqb}
 use lib.ListN.{length, getD}
 use Rattle.ground.specs.Choice.{pick}
 use Rattle.lexis.specs.Pieces.{decoded}
+use Rattle.form.specs.declared.Operand.{Operand}
 use Rattle.netlist.specs.Netlist.{Meta, Io, Cell, Netlist}
 use Rattle.saying.specs.Values.{rowOf}
 
@@ -69,6 +70,10 @@ pub data SpellIos (text : List ℕ) : List IoNote → Type 0 where
 pub data SpellCells (text : List ℕ) : List CellNote → Type 0 where
   none : SpellCells text []
   more : {n : CellNote} {ns : List CellNote} → Spells text (n .nameAt) (n .cell .name) → SpellCells text ns → SpellCells text (n ∷ ns)
+
+-- where an operand is read, plus one; 0 for none
+abbrev pub operandWord : Operand → ℕ
+operandWord o = pick (o .given) (o .at + 1) 0
 
 -- a map from author's numbers to rows: a word for each number, the row plus one or 0
 pub record Maps (numbers map : List ℕ) : Type 0 where
