@@ -3,24 +3,22 @@
 use mathlib.Core.Path.{_≡_, refl, ap, sym, subst, _∙_}
 use mathlib.Core.Bool.{true, false}
 use mathlib.Core.List.{List, [], _∷_, _++_, append-nil}
-use Prim.Native.Nat.{ℕ, _+_, _-_, _*_, _<_, _≤_}
+use Prim.Native.Nat.{ℕ, _+_, _*_, _<_, _≤_}
 use native.Mathlib.Omega.{arith}
-use lib.Dec.{ltb}
 use lib.ListN.{length, getD, length-append}
 use lib.Seq.{sets}
-use Rattle.ground.specs.Regions.{pad}
 use Rattle.ground.proofs.Regions.{length-pad}
-use Rattle.netlist.specs.Netlist.{Run, const, piece, runBitsOf}
+use Rattle.netlist.specs.Netlist.{const, piece, runBitsOf}
 use Rattle.netlist.specs.Runs.{Bit, falling, knownBits, cut}
 use Rattle.netlist.specs.Tables.{runRows}
 use Rattle.netlist.proofs.Lengths.{length-runRows}
-use Rattle.laying.specs.Growing.{Open, Opened, Grown, Grows, lastRow, lastIs, lastIsFrom}
+use Rattle.laying.specs.Growing.{Open, Opened, Grows, Added, lastRow, lastIs, lastIsFrom}
 use Rattle.laying.specs.declared.Laid.{Laid}
 use Rattle.laying.specs.declared.Laying.{Laying}
 use Rattle.laying.specs.declared.Laying.the-variants as laying
 use Rattle.laying.proofs.Melding.{cut-trits, cut-falling, cut-known}
 use Rattle.laying.proofs.Keeping.{trits-append}
-use Rattle.laying.proofs.Joining.{Seen, seen-piece, seen-constant, open-full, open-more, piece-joined, constant-joined, last-short}
+use Rattle.laying.proofs.Joining.{seen-piece, seen-constant, open-full, open-more, piece-joined, constant-joined, last-short}
 
 -- THE ROOM that an operand with n bits to come has
 module _ {first : ℕ} {runs trits : List ℕ} {so : Laid} {n : ℕ} (h : Opened first runs trits so n) where
@@ -69,17 +67,17 @@ module _ {first : ℕ} {runs trits : List ℕ} {so : Laid} (cell from w : ℕ) (
       → Grows first runs trits so (falling cell from w) (laying.Laid so) runs′ trits
   piece-on t room e = record { behind = λ rs done o. piece-joined o cell from w wide (rw t at (seen-piece o cell from w)) e room }
 
-  module _ (t : lastIsFrom runs first (so .runs) (cell + 1) (from + w) ≡ false) where
-    pub piece-full : so .runs ≡ 4096 → {runs′ : List ℕ} → Grows first runs trits so (falling cell from w) laying.Full runs′ trits
-    piece-full f = record { behind = λ rs done o. open-full o (falling cell from w) (piece cell from w) (cut-falling cell from w wide) (rw t at (seen-piece o cell from w)) f }
-
-    pub piece-new : {runs′ : List ℕ} {so′ : Laid} → so .runs < 4096 → so .trits ≤ 262656
-        → runs′ ≡ sets runs (3 * so .runs) ((cell + 1) ∷ from ∷ w ∷ []) → so′ .runs ≡ so .runs + 1 → so′ .trits ≡ so .trits
-        → Grows first runs trits so (falling cell from w) (laying.Laid so′) runs′ trits
-    piece-new few room e c b = record {
-      behind = λ rs done o.
-          open-more o (falling cell from w) (piece cell from w) (cut-falling cell from w wide) (rw t at (seen-piece o cell from w)) few (omega arith) e refl c (omega arith);
-    }
+  pub piece-added : (r : Laying) {runs′ : List ℕ} → lastIsFrom runs first (so .runs) (cell + 1) (from + w) ≡ false → so .trits ≤ 262656
+      → Added runs so ((cell + 1) ∷ from ∷ w ∷ []) 0 r runs′ → Grows first runs trits so (falling cell from w) r runs′ trits
+  piece-added (laying.Laid so′) t room e = record {
+    behind = λ rs done o.
+        open-more o (falling cell from w) (piece cell from w) (cut-falling cell from w wide) (rw t at (seen-piece o cell from w))
+        (e .few) (omega arith) (e .is) refl (e .count) (e .filled);
+  }
+  piece-added laying.Full t room e = record {
+    behind = λ rs done o.
+        open-full o (falling cell from w) (piece cell from w) (cut-falling cell from w wide) (rw t at (seen-piece o cell from w)) e;
+  }
 
 -- A CONSTANT of so many trits, which stand behind those in use
 module _ {first : ℕ} {runs trits : List ℕ} {so : Laid} (ts : List ℕ) (size : ℕ) (long : length ts ≡ size) where
@@ -100,16 +98,16 @@ module _ {first : ℕ} {runs trits : List ℕ} {so : Laid} (ts : List ℕ) (size
         let f = e ∙ ap (λ (m : ℕ). sets runs (lastRow (so .runs)) (0 ∷ getD runs (lastRow (so .runs) + 1) 0 ∷ (getD runs (lastRow (so .runs) + 2) 0 + m) ∷ [])) (sym long) in
         record { behind = λ rs done o. constant-joined o ts (omega arith) (rw t at (seen-constant o ts)) f refl (omega arith) c (omega arith) }
 
-    module _ (t : lastIs runs first (so .runs) 0 ≡ false) where
-      pub constant-full : so .runs ≡ 4096 → {runs′ : List ℕ} → Grows first runs trits so (knownBits ts) laying.Full runs′ (sets trits (so .trits) ts)
-      constant-full f = record { behind = λ rs done o. open-full o (knownBits ts) (const ts) (cut-known ts (omega arith)) (rw t at (seen-constant o ts)) f }
-
-      pub constant-new : {runs′ : List ℕ} {so′ : Laid} → so .runs < 4096 → so .trits + size ≤ 262656
-          → runs′ ≡ sets runs (3 * so .runs) (0 ∷ so .trits ∷ size ∷ []) → so′ .runs ≡ so .runs + 1 → so′ .trits ≡ so .trits + size
-          → Grows first runs trits so (knownBits ts) (laying.Laid so′) runs′ (sets trits (so .trits) ts)
-      constant-new few room e c b =
-          let f = e ∙ ap (λ (m : ℕ). sets runs (3 * so .runs) (0 ∷ so .trits ∷ m ∷ [])) (sym long) in
-          record {
-            behind = λ rs done o.
-                open-more o (knownBits ts) (const ts) (cut-known ts (omega arith)) (rw t at (seen-constant o ts)) few (omega arith) f refl c (omega arith);
-          }
+    pub constant-added : (r : Laying) {runs′ : List ℕ} → lastIs runs first (so .runs) 0 ≡ false → so .trits + size ≤ 262656
+        → Added runs so (0 ∷ so .trits ∷ size ∷ []) size r runs′ → Grows first runs trits so (knownBits ts) r runs′ (sets trits (so .trits) ts)
+    constant-added (laying.Laid so′) t room e =
+        let f = e .is ∙ ap (λ (m : ℕ). sets runs (3 * so .runs) (0 ∷ so .trits ∷ m ∷ [])) (sym long) in
+        record {
+          behind = λ rs done o.
+              open-more o (knownBits ts) (const ts) (cut-known ts (omega arith)) (rw t at (seen-constant o ts))
+              (e .few) (omega arith) f refl (e .count) (omega (arith, e .filled));
+        }
+    constant-added laying.Full t room e = record {
+      behind = λ rs done o.
+          open-full o (knownBits ts) (const ts) (cut-known ts (omega arith)) (rw t at (seen-constant o ts)) e;
+    }

@@ -1,16 +1,15 @@
 -- A constant that is a part of an operand lies inside the text, and the numbers of a piece are at most 65,535.
 -- Assumes nothing.
-use mathlib.Core.Path.{_≡_, refl, subst, _∙_}
+use mathlib.Core.Path.{_≡_, refl, subst}
 use mathlib.Core.Bool.{Bool, true, false, _||_}
 use mathlib.Core.List.{List, [], _∷_}
-use Prim.Native.Nat.{ℕ, zero, suc, _+_, _-_, _<_, _≤_}
+use Prim.Native.Nat.{ℕ, zero, suc, _+_, _-_, _≤_}
 use native.Mathlib.Omega.{arith}
 use lib.Dec.{ltb, leb, eqb}
 use lib.ListN.{length, drop, getD, length-drop}
 use borrow.Author.Tests.{ltb-false}
 use Rattle.ground.specs.Choice.{pick}
 use Rattle.ground.proofs.Bools.{bool-cases, never-both}
-use Rattle.ground.proofs.Rest.{rest-end}
 use Rattle.ground.specs.declared.Place.{Place}
 use Rattle.kinds.proofs.Widths.{picked}
 use Rattle.lexis.specs.Bytes.{isConstant, isLetter, isFeed, isSpecial}
@@ -25,10 +24,9 @@ use Rattle.lexis.specs.declared.pieces.Suffix.{Suffix}
 use Rattle.lexis.specs.declared.pieces.Quoted.{Quoted}
 use Rattle.lexis.specs.declared.pieces.Quoted.the-variants.{Closed, Malformed}
 use Rattle.form.specs.Words.{isSort}
-use Rattle.form.specs.Parts.{isPart, baseOf, partOf, partedOf, nextPart, PartAt, partsFrom, partsOf, partsAt}
+use Rattle.form.specs.Parts.{isPart, baseOf, partOf, partedOf, nextPart, partsFrom, partsOf, partsAt}
 use Rattle.form.specs.declared.Operand.{Operand}
 use Rattle.form.specs.declared.Part.{Part}
-use Rattle.form.specs.declared.Part.the-variants.{One, Repeated}
 use Rattle.form.specs.declared.Parted.{Parted}
 use Rattle.form.specs.declared.Parted.the-variants as parted
 use Rattle.laying.specs.Growing.{BaseIn, PartIn, PartsIn, none, more}

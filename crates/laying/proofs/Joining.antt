@@ -1,10 +1,9 @@
 -- A piece or a constant behind the bits of an operand that are laid.
 -- Assumes nothing.
 use mathlib.Core.Path.{_≡_, refl, ap, ap₂, sym, subst, _∙_}
-use mathlib.Core.Bool.{Bool, true, false, _&&_}
+use mathlib.Core.Bool.{Bool, true, false}
 use mathlib.Core.List.{List, [], _∷_, _++_, append-assoc, append-nil}
-use Prim.Native.Nat.{ℕ, _+_, _-_, _*_, _<_, _≤_}
-use native.Mathlib.Nat.{add-comm}
+use Prim.Native.Nat.{ℕ, _+_, _*_, _<_, _≤_}
 use native.Mathlib.Omega.{arith}
 use lib.Dec.{eqb, ltb}
 use lib.ListN.{length, getD, length-append}
@@ -18,7 +17,7 @@ use Rattle.netlist.specs.Tables.{runRow}
 use Rattle.laying.specs.Holding.{Holds}
 use Rattle.laying.specs.Growing.{Open, lastIs, lastRow, lastIsFrom}
 use Rattle.laying.specs.declared.Laid.{Laid}
-use Rattle.laying.proofs.Melding.{Ending, empty, last, ending, fuse, cut-joined, cut-apart, cut-first, cut-falling, cut-known, cut-trits, last-narrow}
+use Rattle.laying.proofs.Melding.{Ending, empty, last, ending, fuse, cut-joined, cut-apart, cut-first, cut-falling, cut-known, last-narrow}
 use Rattle.laying.proofs.Keeping.{hold-more, hold-last, last-word}
 
 -- whether the last run, where the operand has one, joins with the run q

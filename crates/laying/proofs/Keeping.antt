@@ -3,7 +3,7 @@
 use mathlib.Core.Path.{_≡_, refl, ap, ap₂, sym, _∙_}
 use mathlib.Core.List.{List, [], _∷_, _++_, append-assoc, append-nil}
 use Prim.Native.Nat.{ℕ, _+_, _-_, _*_, _<_, _≤_}
-use native.Mathlib.Nat.{add-zero, add-assoc, zero-add}
+use native.Mathlib.Nat.{add-zero, zero-add}
 use native.Mathlib.Omega.{arith}
 use lib.ListN.{length, getD, length-append, List·getD-append}
 use lib.Seq.{sets, getD-append-add}
@@ -126,3 +126,8 @@ last-word rs r {runs} {trits} {so} i few h =
     ap₂ (λ x j. getD x (j + i) 0) (h .rows ∙ ap (pad 12288) (rows-last rs r) ∙ append-assoc (runRows 0 rs) row z) at
     ∙ getD-append-add (runRows 0 rs) (row ++ z) i 0
     ∙ List·getD-append row z 0 i (omega arith)
+
+-- clear regions hold no runs
+pub hold-none : Holds [] (zeros 12288) (zeros 262656) (record { runs = 0; trits = 0 })
+unfolding runRows joined pad
+hold-none = record { rows = refl; bits = refl; count = refl; filled = refl; long = omega arith }

@@ -1,8 +1,8 @@
 -- Runs behind runs: longest runs of a list of bits are those of its front and its back, joined at the seam where they go on.
 -- Assumes nothing.
 use mathlib.Core.Path.{_≡_, refl, ap, sym, _∙_}
-use mathlib.Core.Bool.{Bool, true, false, _&&_}
-use mathlib.Core.List.{List, [], _∷_, _++_, append-assoc, append-nil}
+use mathlib.Core.Bool.{true, false, _&&_}
+use mathlib.Core.List.{List, [], _∷_, _++_, append-assoc}
 use Prim.Native.Nat.{ℕ, zero, suc, _+_, _<_, _≤_}
 use native.Mathlib.Nat.{add-assoc}
 use native.Mathlib.Omega.{arith}
@@ -12,7 +12,7 @@ use borrow.Author.Tests.{eqb-true, eq-eqb}
 use Rattle.ground.specs.Choice.{pick}
 use Rattle.ground.specs.Lists.{joined, total}
 use Rattle.ground.proofs.Bools.{bool-cases, and-true}
-use Rattle.netlist.specs.Netlist.{Run, const, piece, bitsIn, runBitsOf, runWidth, operandWidth}
+use Rattle.netlist.specs.Netlist.{Run, const, piece, runBitsOf, runWidth, operandWidth}
 use Rattle.netlist.specs.Runs.{Bit, known, bit, falling, knownBits, runsWith, cut, joins}
 
 -- two neighbours as one run

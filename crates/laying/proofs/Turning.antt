@@ -13,12 +13,11 @@ use Rattle.form.specs.declared.Base.the-variants as base
 use Rattle.form.specs.declared.Part.{Part}
 use Rattle.form.specs.declared.Part.the-variants as part
 use Rattle.form.proofs.Sums.{widths}
-use Rattle.netlist.specs.Netlist.{Run, runBitsOf}
+use Rattle.netlist.specs.Netlist.{Run}
 use Rattle.netlist.specs.Runs.{Bit, cut}
 use Rattle.saying.specs.Values.{tritsIn, baseBits, copies, partBits}
-use Rattle.laying.specs.Growing.{Open, Opened, Grown, Grows, BaseIn, PartIn, PartsIn, none, more}
+use Rattle.laying.specs.Growing.{Open, Opened, Grows, BaseIn, PartIn, PartsIn, none, more}
 use Rattle.laying.specs.declared.Laid.{Laid}
-use Rattle.laying.specs.declared.Laying.{Laying}
 use Rattle.laying.specs.declared.Laying.the-variants as laying
 use Rattle.laying.proofs.Adding.{grows-none}
 use Rattle.laying.proofs.Copying.{trits-long}

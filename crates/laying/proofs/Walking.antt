@@ -1,26 +1,25 @@
 -- An operand from its first part to its last.
 -- Assumes nothing.
-use mathlib.Core.Path.{_≡_, refl, ap, sym, subst, _∙_}
+use mathlib.Core.Path.{_≡_, ap, sym, subst, _∙_}
 use mathlib.Core.List.{List, [], _∷_, _++_, append-nil}
-use Prim.Native.Nat.{ℕ, _+_, _<_, _≤_}
+use Prim.Native.Nat.{ℕ, _+_, _≤_}
 use native.Mathlib.Omega.{arith}
 use lib.ListN.{length, length-append}
 use Rattle.ground.specs.Lists.{joined}
 use Rattle.ground.specs.declared.Place.{Place}
-use Rattle.form.specs.Parts.{PartAt, partWidth, partsAt}
-use Rattle.form.specs.Walks.{walkOf, walkStep, partsLeft, partsOn, mostParts}
+use Rattle.form.specs.Parts.{partWidth, partsAt}
+use Rattle.form.specs.Walks.{walkOf, walkStep, partsLeft, partsOn}
 use Rattle.form.specs.declared.Operand.{Operand}
 use Rattle.form.specs.declared.Part.{Part}
 use Rattle.form.specs.declared.Walk.{Walk}
-use Rattle.form.specs.declared.Walked.{Walked}
 use Rattle.form.specs.declared.Walked.the-variants as walked
 use Rattle.form.proofs.Steps.{walk-starts, walk-goes}
 use Rattle.form.proofs.Sums.{widths}
-use Rattle.netlist.specs.Netlist.{Run, runBitsOf}
-use Rattle.netlist.specs.Runs.{Bit, cut}
+use Rattle.netlist.specs.Netlist.{Run}
+use Rattle.netlist.specs.Runs.{cut}
 use Rattle.saying.specs.Values.{partBits, operandRuns}
 use Rattle.laying.specs.Holding.{Holds, Held, After}
-use Rattle.laying.specs.Growing.{Open, Opened, Grows, PartIn, PartsIn, none, more}
+use Rattle.laying.specs.Growing.{Open, Opened, Grows, PartIn, PartsIn, more}
 use Rattle.laying.specs.declared.Laid.{Laid}
 use Rattle.laying.specs.declared.Laying.{Laying}
 use Rattle.laying.specs.declared.Laying.the-variants as laying

@@ -5,6 +5,7 @@ use Prim.Native.Nat.{ℕ, _+_, _-_, _*_, _≤_, _<_}
 use mathlib.Core.Bool.{Bool, false}
 use lib.Dec.{ltb, eqb}
 use lib.ListN.{length, getD}
+use lib.Seq.{sets}
 use Rattle.ground.specs.Choice.{pick}
 use Rattle.form.specs.Parts.{PartAt}
 use Rattle.form.specs.declared.Base.{Base}
@@ -53,6 +54,17 @@ lastIs runs first n head = pick (ltb first n) (eqb (getD runs (lastRow n) 0) hea
 
 abbrev pub lastIsFrom : List ℕ → ℕ → ℕ → ℕ → ℕ → Bool
 lastIsFrom runs first n head from = pick (lastIs runs first n head) (eqb (getD runs (lastRow n + 1) 0) from) false
+
+-- a row of its own behind those in use, with `size` trits; or all rows are in use
+pub record NewRow (runs : List ℕ) (so : Laid) (row : List ℕ) (size : ℕ) (so′ : Laid) (runs′ : List ℕ) : Type 0 where
+  pub few : so .runs < 4096
+  pub is : runs′ ≡ sets runs (3 * so .runs) row
+  pub count : so′ .runs ≡ so .runs + 1
+  pub filled : so′ .trits ≡ so .trits + size
+
+abbrev pub Added : List ℕ → Laid → List ℕ → ℕ → Laying → List ℕ → Type 0
+Added runs so row size (laying.Laid so′) runs′ = NewRow runs so row size so′ runs′
+Added runs so row size laying.Full runs′ = so .runs ≡ 4096
 
 -- a constant lies inside the text; a piece has numbers of the text's size
 abbrev pub BaseIn : List ℕ → Base → Type 0

@@ -8,7 +8,7 @@ ghost use Prim.Native.Nat.{ℕ, _+_, _≤_};
 ghost use lib.ListN.{length};
 ghost use lib.Seq.{sets};
 ghost use Rattle.netlist.specs.Runs.{knownBits, falling};
-ghost use Rattle.laying.specs.Growing.{OpenedRows, Grows, lastIs, lastIsFrom};
+ghost use Rattle.laying.specs.Growing.{OpenedRows, Grows, Added, lastIs, lastIsFrom};
 
 fn put_row(runs: &mut [u32], at: usize, head: u32, from: u32, width: u32)
     requires { ⌜ at + 3 ≤ length (now runs) ⌝ }
@@ -41,6 +41,21 @@ fn last_is_from(runs: &[u32], first: usize, n: usize, head: u32, from: u32) -> b
     false
 }
 
+// A run of its own behind those in use, with `size` trits behind those in use; document 01 has room for 4,096 runs.
+fn add_row(runs: &mut [u32], so: Laid, head: u32, from: u32, width: u32, size: usize) -> Laying
+    requires { ⌜ (length (now runs) ≡ 12288) × (so .runs ≤ 4096) × (so .trits + size ≤ 262656) ⌝ }
+    ensures { λ r. ⌜ Added (now (runs .entry)) so (head ∷ from ∷ width ∷ []) size r (now (runs .exit)) ⌝ }
+{
+    let n = so.runs;
+    if n == 4096 {
+        return Laying::Full;
+    }
+    put_row(runs, 3 * n, head, from, width);
+    let runs = n + 1;
+    let trits = so.trits + size;
+    Laying::Laid(Laid { runs, trits })
+}
+
 // A piece behind the operand's runs: it makes the last one longer where that goes on into it.
 pub(crate) fn add_piece(runs: &mut [u32], first: usize, so: Laid, p: Piece) -> Laying
     requires { ⌜ (p .cell ≤ 65535) × (p .offset ≤ 65535) × OpenedRows first (now runs) so (p .width) ⌝ }
@@ -59,13 +74,7 @@ pub(crate) fn add_piece(runs: &mut [u32], first: usize, so: Laid, p: Piece) -> L
         put_row(runs, at, head, from, long);
         return Laying::Laid(so);
     }
-    if n == 4096 {
-        return Laying::Full;
-    }
-    put_row(runs, 3 * n, head, from, width);
-    let runs = n + 1;
-    let trits = so.trits;
-    Laying::Laid(Laid { runs, trits })
+    add_row(runs, so, head, from, width, 0)
 }
 
 // A constant of `size` trits behind the operand's runs: it makes the last one longer where that is a constant.
@@ -78,18 +87,15 @@ pub(crate) fn add_known(runs: &mut [u32], first: usize, so: Laid, size: usize) -
     if size == 0 {
         return Laying::Laid(so);
     }
-    let trits = start + size;
     if last_is(runs, first, n, 0) {
         let at = 3 * (n - 1);
         let from = runs[at + 1];
         let long = runs[at + 2] + size as u32;
         put_row(runs, at, 0, from, long);
-        return Laying::Laid(Laid { runs: n, trits });
+        return Laying::Laid(Laid {
+            runs: n,
+            trits: start + size,
+        });
     }
-    if n == 4096 {
-        return Laying::Full;
-    }
-    put_row(runs, 3 * n, 0, start as u32, size as u32);
-    let runs = n + 1;
-    Laying::Laid(Laid { runs, trits })
+    add_row(runs, so, 0, start as u32, size as u32, size)
 }

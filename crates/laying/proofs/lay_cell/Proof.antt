@@ -1,4 +1,3 @@
-use mathlib.Core.Path.{_≡_}
 use mathlib.Core.List.{_++_}
 use native.Mathlib.Omega.{arith}
 use Rattle.saying.specs.Values.{operandRuns}
@@ -6,31 +5,22 @@ use Rattle.laying.proofs.Counting.{laid-held, laid-trits, laid-runs, fu
 use borrow.Author.Needs.{needs}
 use Rattle.laying.proofs.lay_cell.Statement.{statement}
 use Rattle.laying.proofs.lay_cell.Tie as tie
-use Rattle.laying.proofs.lay_cell.Reads as reads
-use Rattle.laying.proofs.lay_cell.Lts as lts
-use Rattle.laying.proofs.lay_operand.Reads as lay-operand-reads
 
--- src/lib.rt:94:9
 lay-operand-requires : tie.Need-lay-operand-requires
 lay-operand-requires c κs = search needs
 
--- src/lib.rt:95:22
 enum-known-first : tie.Need-enum-known-first
 enum-known-first c = search needs
 
--- src/lib.rt:96:9
 enum-told : tie.Need-enum-told
 enum-told c = search needs
 
--- src/lib.rt:96:9
 same-length : tie.Need-same-length
 same-length c = search needs
 
--- src/lib.rt:96:9
 same-length-2 : tie.Need-same-length-2
 same-length-2 c = search needs
 
--- src/lib.rt:96:9
 returns : tie.Need-returns
 returns c =
     let s = c .before .before .before .before .before .before .before .before .before .before .before .before .before .before .before in
@@ -40,7 +30,6 @@ returns c =
     let f = rw (c .enum-told .given .1) at (c .before .before .before .before .before .before .lay-operand .ensures) in
     λ rs o. full-one rs (operandRuns (a .text .now) (w .a)) (operandRuns (a .text .now) (w .b)) (operandRuns (a .text .now) (w .c)) (f rs o)
 
--- src/lib.rt:98:9
 lay-operand-requires-2 : tie.Need-lay-operand-requires-2
 lay-operand-requires-2 c κs =
     let s = c .before .before .before .before .before .before .before .before .before .before .before .before .before .before .before .before .before .before in
@@ -53,23 +42,18 @@ lay-operand-requires-2 c κs =
     let n1 = laid-runs (a .text .now) (w .a) e1 h in
     (s .pre .0, s .pre .1, h1, s .pre .3 .b, omega (arith, s .pre .3 .all))
 
--- src/lib.rt:99:22
 enum-known-second : tie.Need-enum-known-second
 enum-known-second c = search needs
 
--- src/lib.rt:100:9
 enum-told-2 : tie.Need-enum-told-2
 enum-told-2 c = search needs
 
--- src/lib.rt:100:9
 same-length-3 : tie.Need-same-length-3
 same-length-3 c = search needs
 
--- src/lib.rt:100:9
 same-length-4 : tie.Need-same-length-4
 same-length-4 c = search needs
 
--- src/lib.rt:100:9
 returns-2 : tie.Need-returns-2
 returns-2 c =
     let s = c .before .before .before .before .before .before .before .before .before .before .before .before .before .before .before .before .before .before .before .before .before .before .before .before .before in
@@ -83,7 +67,6 @@ returns-2 c =
     let f = rw (c .enum-told2 .given .1) at (c .before .before .before .before .before .before .lay-operand2 .ensures) in
     λ rs o. full-two rs (operandRuns (a .text .now) (w .a)) (operandRuns (a .text .now) (w .b)) (operandRuns (a .text .now) (w .c)) (f (rs ++ operandRuns (a .text .now) (w .a)) (e1 rs o))
 
--- src/lib.rt:102:9
 lay-operand-requires-3 : tie.Need-lay-operand-requires-3
 lay-operand-requires-3 c κs =
     let s = c .before .before .before .before .before .before .before .before .before .before .before .before .before .before .before .before .before .before .before .before .before .before .before .before .before .before .before .before in
@@ -100,23 +83,18 @@ lay-operand-requires-3 c κs =
     let n2 = laid-runs (a .text .now) (w .b) e2 h1 in
     (s .pre .0, s .pre .1, h2, s .pre .3 .c, omega (arith, s .pre .3 .all))
 
--- src/lib.rt:103:22
 enum-known-third : tie.Need-enum-known-third
 enum-known-third c = search needs
 
--- src/lib.rt:104:9
 enum-told-3 : tie.Need-enum-told-3
 enum-told-3 c = search needs
 
--- src/lib.rt:104:9
 same-length-5 : tie.Need-same-length-5
 same-length-5 c = search needs
 
--- src/lib.rt:104:9
 same-length-6 : tie.Need-same-length-6
 same-length-6 c = search needs
 
--- src/lib.rt:104:9
 returns-3 : tie.Need-returns-3
 returns-3 c =
     let s = c .before .before .before .before .before .before .before .before .before .before .before .before .before .before .before .before .before .before .before .before .before .before .before .before .before .before .before .before .before .before .before .before .before .before .before in
@@ -134,7 +112,6 @@ returns-3 c =
     let f = rw (c .enum-told3 .given .1) at (c .before .before .before .before .before .before .lay-operand3 .ensures) in
     λ rs o. full-three rs (operandRuns (a .text .now) (w .a)) (operandRuns (a .text .now) (w .b)) (operandRuns (a .text .now) (w .c)) (f ((rs ++ operandRuns (a .text .now) (w .a)) ++ operandRuns (a .text .now) (w .b)) (e2 (rs ++ operandRuns (a .text .now) (w .a)) (e1 rs o)))
 
--- src/lib.rt:107:12
 sub-t28 : tie.Need-sub-t28
 sub-t28 c =
     let s = c .before .before .before .before .before .before .before .before .before .before .before .before .before .before .before .before .before .before .before .before .before .before .before .before .before .before .before .before .before .before .before .before .before .before .before .before .before .before in
@@ -147,7 +124,6 @@ sub-t28 c =
     let n1 = laid-runs (a .text .now) (w .a) e1 h in
     omega arith
 
--- src/lib.rt:108:12
 sub-t29 : tie.Need-sub-t29
 sub-t29 c =
     let s = c .before .before .before .before .before .before .before .before .before .before .before .before .before .before .before .before .before .before .before .before .before .before .before .before .before .before .before .before .before .before .before .before .before .before .before .before .before .before .before .before in
@@ -164,7 +140,6 @@ sub-t29 c =
     let n2 = laid-runs (a .text .now) (w .b) e2 h1 in
     omega arith
 
--- src/lib.rt:109:12
 sub-t30 : tie.Need-sub-t30
 sub-t30 c =
     let s = c .before .before .before .before .before .before .before .before .before .before .before .before .before .before .before .before .before .before .before .before .before .before .before .before .before .before .before .before .before .before .before .before .before .before .before .before .before .before .before .before .before .before in
@@ -185,17 +160,14 @@ sub-t30 c =
     let n3 = laid-runs (a .text .now) (w .c) e3 h2 in
     omega arith
 
--- src/lib.rt:80:1
 same-length-7 : tie.Need-same-length-7
 same-length-7 c =
     omega (arith, c .before .before .before .before .before .before .before .before .before .before .before .before .before .before .before .before .before .before .before .before .before .before .before .before .before .before .before .before .before .before .before .before .before .lay-operand .kept, c .before .before .before .before .before .before .before .before .before .before .before .before .before .before .before .before .before .before .before .before .before .before .before .lay-operand2 .kept, c .before .before .before .before .before .before .before .before .before .before .before .before .before .lay-operand3 .kept)
 
--- src/lib.rt:80:1
 same-length-8 : tie.Need-same-length-8
 same-length-8 c =
     omega (arith, c .before .before .before .before .before .before .before .before .before .before .before .before .before .before .before .before .before .before .before .before .before .before .before .before .before .before .before .before .before .before .before .before .before .lay-operand .kept, c .before .before .before .before .before .before .before .before .before .before .before .before .before .before .before .before .before .before .before .before .before .before .before .lay-operand2 .kept, c .before .before .before .before .before .before .before .before .before .before .before .before .before .lay-operand3 .kept)
 
--- src/lib.rt:80:1
 returns-4 : tie.Need-returns-4
 returns-4 c =
     let s = c .before .before .before .before .before .before .before .before .before .before .before .before .before .before .before .before .before .before .before .before .before .before .before .before .before .before .before .before .before .before .before .before .before .before .before .before .before .before .before .before .before .before in

@@ -7,11 +7,6 @@ use Rattle.laying.proofs.Walking.{Walks, walks-none, walks-done, walks-
 use borrow.Author.Needs.{needs}
 use Rattle.laying.proofs.lay_operand.Statement.{statement}
 use Rattle.laying.proofs.lay_operand.Tie as tie
-use Rattle.laying.proofs.lay_operand.Reads as reads
-use Rattle.laying.proofs.lay_operand.Lts as lts
-use Rattle.form.proofs.walks.walk_of.Reads as walk-of-reads
-use Rattle.form.proofs.walks.walk_step.Reads as walk-step-reads
-use Rattle.laying.proofs.parts.add_part.Reads as add-part-reads
 
 abbrev Inv-loop : tie.InvT-loop
 Inv-loop t text runs₀ trits₀ first used₀ walk₀ runs trits used walk =
@@ -20,11 +15,9 @@ Inv-loop t text runs₀ trits₀ first used₀ walk₀ runs trits used walk =
 abbrev μ-loop : tie.MeasureT-loop
 μ-loop t text runs₀ trits₀ first used₀ walk₀ runs trits used walk = mostParts walk
 
--- src/lib.rt:64:9
 walk-of-requires : tie.Need-walk-of-requires Inv-loop μ-loop
 walk-of-requires c κs = search needs
 
--- src/lib.rt:65:5
 loop-holds : tie.Need-loop-holds Inv-loop μ-loop
 loop-holds c =
     let s = c .before .before .before .before in
@@ -32,29 +25,23 @@ loop-holds c =
     let b = c .walk-of .ensures in
     (refl, refl, walks-none (a .text .now) (a .operand) _ b (a .runs .now) (a .trits .now) (a .so))
 
--- src/lib.rt:66:13
 walk-step-requires : tie.Need-walk-step-requires Inv-loop μ-loop
 walk-step-requires c κs = search needs
 
--- src/lib.rt:67:26
 enum-known-step : tie.Need-enum-known-step Inv-loop μ-loop
 enum-known-step c = search needs
 
--- src/lib.rt:68:13
 enum-told : tie.Need-enum-told Inv-loop μ-loop
 enum-told c = search needs
 
--- src/lib.rt:68:13
 same-length : tie.Need-same-length Inv-loop μ-loop
 same-length c =
     omega (arith, c .before .before .before .loop .inv .0)
 
--- src/lib.rt:68:13
 same-length-2 : tie.Need-same-length-2 Inv-loop μ-loop
 same-length-2 c =
     omega (arith, c .before .before .before .loop .inv .1)
 
--- src/lib.rt:68:13
 returns : tie.Need-returns Inv-loop μ-loop
 returns c =
     let s = c .before .before .before .before .before .before .before .before in
@@ -64,7 +51,6 @@ returns c =
     let e = sym (c .enum-told .given .1) ∙ c .before .before .walk-step .ensures in
     walked-after (a .text .now) (a .operand) _ b (a .runs .now) (a .trits .now) (a .so) _ (walks-done (a .text .now) (a .operand) _ b (a .runs .now) (a .trits .now) (a .so) (l .inv .2) e)
 
--- src/lib.rt:70:13
 add-part-requires : tie.Need-add-part-requires Inv-loop μ-loop
 add-part-requires c κs =
     let s = c .before .before .before .before .before .before .before .before .before .before .before in
@@ -74,25 +60,20 @@ add-part-requires c κs =
     let e = sym (c .before .before .before .step .given .1) ∙ c .before .before .before .before .before .walk-step .ensures in
     (s .pre .0, walks-in (a .text .now) (a .operand) _ b (a .runs .now) (a .trits .now) (a .so) (l .inv .2) _ _ _ e, walks-room (a .text .now) (a .operand) _ b (a .runs .now) (a .trits .now) (a .so) (l .inv .2) _ _ _ e (s .pre .2) (s .pre .3) (s .pre .4))
 
--- src/lib.rt:71:26
 enum-known-added : tie.Need-enum-known-added Inv-loop μ-loop
 enum-known-added c = search needs
 
--- src/lib.rt:72:13
 enum-told-2 : tie.Need-enum-told-2 Inv-loop μ-loop
 enum-told-2 c = search needs
 
--- src/lib.rt:72:13
 same-length-3 : tie.Need-same-length-3 Inv-loop μ-loop
 same-length-3 c =
     omega (arith, c .before .before .before .before .before .before .before .before .before .before .before .before .before .loop .inv .0, c .before .before .before .before .before .before .add-part .kept)
 
--- src/lib.rt:72:13
 same-length-4 : tie.Need-same-length-4 Inv-loop μ-loop
 same-length-4 c =
     omega (arith, c .before .before .before .before .before .before .before .before .before .before .before .before .before .loop .inv .1, c .before .before .before .before .before .before .add-part .kept)
 
--- src/lib.rt:72:13
 returns-2 : tie.Need-returns-2 Inv-loop μ-loop
 returns-2 c =
     let s = c .before .before .before .before .before .before .before .before .before .before .before .before .before .before .before .before .before .before in
@@ -102,7 +83,6 @@ returns-2 c =
     let e = sym (c .before .before .before .before .before .before .before .before .before .before .step .given .1) ∙ c .before .before .before .before .before .before .before .before .before .before .before .before .walk-step .ensures in
     walked-after (a .text .now) (a .operand) _ b (a .runs .now) (a .trits .now) (a .so) _ (walks-full (a .text .now) (a .operand) _ b (a .runs .now) (a .trits .now) (a .so) (l .inv .2) _ _ _ e (rw (c .enum-told2 .given .1) at (c .before .before .before .before .before .before .add-part .ensures)))
 
--- src/lib.rt:65:5
 loop-less : tie.Need-loop-less Inv-loop μ-loop
 loop-less c =
     let s = c .before .before .before .before .before .before .before .before .before .before .before .before .before .before .before .before .before .before .before in
@@ -111,7 +91,6 @@ loop-less c =
     let e = sym (c .before .before .before .before .before .before .before .before .before .before .before .step .given .1) ∙ c .before .before .before .before .before .before .before .before .before .before .before .before .before .walk-step .ensures in
     walk-shrinks (a .text .now) (l .walk) _ _ _ (sym e)
 
--- src/lib.rt:65:5
 loop-again : tie.Need-loop-again Inv-loop μ-loop
 loop-again c =
     let s = c .before .before .before .before .before .before .before .before .before .before .before .before .before .before .before .before .before .before .before in

@@ -1,16 +1,10 @@
 use borrow.Author.Needs.{needs}
 use Rattle.laying.proofs.parts.add_base.Statement.{statement}
 use Rattle.laying.proofs.parts.add_base.Tie as tie
-use Rattle.laying.proofs.parts.add_base.Reads as reads
-use Rattle.laying.proofs.parts.add_base.Lts as lts
-use Rattle.laying.proofs.parts.add_constant.Reads as add-constant-reads
-use Rattle.laying.proofs.rows.add_piece.Reads as add-piece-reads
 
--- src/parts.rt:60:24
 enum-known-base : tie.Need-enum-known-base
 enum-known-base c = search needs
 
--- src/parts.rt:60:30
 add-constant-requires : tie.Need-add-constant-requires
 add-constant-requires c κs =
     let s = c .before .before .before .before .before .before .before .before in
@@ -18,11 +12,9 @@ add-constant-requires c κs =
     let e = c .before .before .before .base .given .1 in
     (s .pre .0, rw e at (s .pre .1), rw e at (s .pre .2))
 
--- src/parts.rt:61:20
 enum-known-base-2 : tie.Need-enum-known-base-2
 enum-known-base-2 c = search needs
 
--- src/parts.rt:61:26
 add-piece-requires : tie.Need-add-piece-requires
 add-piece-requires c κs =
     let s = c .before .before .before .before .before .before .before in
@@ -31,24 +23,19 @@ add-piece-requires c κs =
     let i = rw e at (s .pre .1) in
     (i .0, i .1, record { trits = a .trits .now; opened = rw e at (s .pre .2) })
 
--- src/parts.rt:47:1
 same-length : tie.Need-same-length
 same-length c = search needs
 
--- src/parts.rt:47:1
 same-length-2 : tie.Need-same-length-2
 same-length-2 c = search needs
 
--- src/parts.rt:47:1
 returns : tie.Need-returns
 returns c =
     rw (c .before .before .before .before .before .before .before .before .base .given .1) (c .before .before .before .before .add-constant .ensures)
 
--- src/parts.rt:47:1
 same-length-3 : tie.Need-same-length-3
 same-length-3 c = search needs
 
--- src/parts.rt:47:1
 returns-2 : tie.Need-returns-2
 returns-2 c =
     let s = c .before .before .before .before .before .before .before .before .before .before in

@@ -5,12 +5,7 @@ use native.Mathlib.Omega.{arith}
 use borrow.Author.Needs.{needs}
 use Rattle.laying.proofs.parts.add_constant.Statement.{statement}
 use Rattle.laying.proofs.parts.add_constant.Tie as tie
-use Rattle.laying.proofs.parts.add_constant.Reads as reads
-use Rattle.laying.proofs.parts.add_constant.Lts as lts
-use Rattle.laying.proofs.rows.add_known.Reads as add-known-reads
-use Rattle.laying.proofs.trits.copy_trits.Reads as copy-trits-reads
 
--- src/parts.rt:34:5
 copy-trits-requires : tie.Need-copy-trits-requires
 copy-trits-requires c κs =
     let s = c .before .before .before .before in
@@ -18,7 +13,6 @@ copy-trits-requires c κs =
     let h = s .pre .2 in
     (s .pre .0, s .pre .1, omega (arith, trits-all h, trits-room h))
 
--- src/parts.rt:35:5
 add-known-requires : tie.Need-add-known-requires
 add-known-requires c κs =
     let s = c .before .before .before .before .before .before .before .before in
@@ -26,15 +20,12 @@ add-known-requires c κs =
     let h = s .pre .2 in
     record { trits = a .trits .now; opened = h }
 
--- src/parts.rt:19:1
 same-length : tie.Need-same-length
 same-length c = search needs
 
--- src/parts.rt:19:1
 same-length-2 : tie.Need-same-length-2
 same-length-2 c = search needs
 
--- src/parts.rt:19:1
 returns : tie.Need-returns
 returns c =
     let s = c .before .before .before .before .before .before .before .before .before .before .before in

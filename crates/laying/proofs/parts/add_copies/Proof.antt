@@ -6,10 +6,6 @@ use Rattle.laying.proofs.Turning.{Turned, turned-none, copies-room, cop
 use borrow.Author.Needs.{needs}
 use Rattle.laying.proofs.parts.add_copies.Statement.{statement}
 use Rattle.laying.proofs.parts.add_copies.Tie as tie
-use Rattle.laying.proofs.parts.add_copies.Reads as reads
-use Rattle.laying.proofs.parts.add_copies.Lts as lts
-use Rattle.laying.proofs.parts.add_base.Reads as add-base-reads
-use Rattle.laying.proofs.parts.base_width.Reads as base-width-reads
 
 abbrev Inv-loop : tie.InvT-loop
 Inv-loop t text base count runs₀ trits₀ first used₀ left₀ runs trits used left =
@@ -19,25 +15,21 @@ Inv-loop t text base count runs₀ trits₀ first used₀ left₀ runs trits use
 abbrev μ-loop : tie.MeasureT-loop
 μ-loop t text base count runs₀ trits₀ first used₀ left₀ runs trits used left = left
 
--- src/parts.rt:79:8
 base-width-requires : tie.Need-base-width-requires Inv-loop μ-loop
 base-width-requires c κs = search needs
 
--- src/parts.rt:80:9
 returns : tie.Need-returns Inv-loop μ-loop
 returns c =
     let s = c .before .before .before .before .before in
     let a = s .args in
     copies-nothing (a .text .now) (a .base) (a .count) (s .pre .1) (sym (c .before .base-width .ensures) ∙ c .if1 .taken)
 
--- src/parts.rt:84:5
 loop-holds : tie.Need-loop-holds Inv-loop μ-loop
 loop-holds c =
     let s = c .before .before .before .before .before in
     let a = s .args in
     (refl, refl, turned-none (a .first) (a .runs .now) (a .trits .now) (a .so) (copies (a .count) (baseBits (a .text .now) (a .base))))
 
--- src/parts.rt:85:13
 add-base-requires : tie.Need-add-base-requires Inv-loop μ-loop
 add-base-requires c κs =
     let s = c .before .before .before .before .before .before .before .before .before in
@@ -45,25 +37,20 @@ add-base-requires c κs =
     let l = c .before .before .before .loop in
     (s .pre .0, s .pre .1, copies-room (a .text .now) (a .base) (a .count) (l .left) (l .inv .2) (c .before .before .loop-test .taken) (s .pre .1) (s .pre .2))
 
--- src/parts.rt:86:26
 enum-known-added : tie.Need-enum-known-added Inv-loop μ-loop
 enum-known-added c = search needs
 
--- src/parts.rt:87:13
 enum-told : tie.Need-enum-told Inv-loop μ-loop
 enum-told c = search needs
 
--- src/parts.rt:87:13
 same-length : tie.Need-same-length Inv-loop μ-loop
 same-length c =
     omega (arith, c .before .before .before .before .before .before .before .before .before .before .loop .inv .0, c .before .before .before .before .before .before .add-base .kept)
 
--- src/parts.rt:87:13
 same-length-2 : tie.Need-same-length-2 Inv-loop μ-loop
 same-length-2 c =
     omega (arith, c .before .before .before .before .before .before .before .before .before .before .loop .inv .1, c .before .before .before .before .before .before .add-base .kept)
 
--- src/parts.rt:87:13
 returns-2 : tie.Need-returns-2 Inv-loop μ-loop
 returns-2 c =
     let s = c .before .before .before .before .before .before .before .before .before .before .before .before .before .before .before .before in
@@ -71,15 +58,12 @@ returns-2 c =
     let l = c .before .before .before .before .before .before .before .before .before .before .loop in
     copies-stop (a .text .now) (a .base) (a .count) (l .left) (l .inv .2) (c .before .before .before .before .before .before .before .before .before .loop-test .taken) (rw (c .enum-told .given .1) at (c .before .before .before .before .before .before .add-base .ensures))
 
--- src/parts.rt:90:9
 sub-left : tie.Need-sub-left Inv-loop μ-loop
 sub-left c = search needs
 
--- src/parts.rt:84:5
 loop-less : tie.Need-loop-less Inv-loop μ-loop
 loop-less c = search needs
 
--- src/parts.rt:84:5
 loop-again : tie.Need-loop-again Inv-loop μ-loop
 loop-again c =
     let s = c .before .before .before .before .before .before .before .before .before .before .before .before .before .before .before .before .before in
@@ -88,15 +72,12 @@ loop-again c =
     let g = c .before .before .before .before .before .before .before .add-base in
     (omega (arith, l .inv .0, g .kept), omega (arith, l .inv .1, g .kept), copies-turn (a .text .now) (a .base) (a .count) (l .left) (l .inv .2) (c .before .before .before .before .before .before .before .before .before .before .loop-test .taken) (rw (c .before .added .given .1) at (g .ensures)))
 
--- src/parts.rt:66:1
 same-length-3 : tie.Need-same-length-3 Inv-loop μ-loop
 same-length-3 c = search needs
 
--- src/parts.rt:66:1
 same-length-4 : tie.Need-same-length-4 Inv-loop μ-loop
 same-length-4 c = search needs
 
--- src/parts.rt:66:1
 returns-3 : tie.Need-returns-3 Inv-loop μ-loop
 returns-3 c =
     let s = c .before .before .before .before .before .before .before in

@@ -1,16 +1,10 @@
 use borrow.Author.Needs.{needs}
 use Rattle.laying.proofs.parts.add_part.Statement.{statement}
 use Rattle.laying.proofs.parts.add_part.Tie as tie
-use Rattle.laying.proofs.parts.add_part.Reads as reads
-use Rattle.laying.proofs.parts.add_part.Lts as lts
-use Rattle.laying.proofs.parts.add_base.Reads as add-base-reads
-use Rattle.laying.proofs.parts.add_copies.Reads as add-copies-reads
 
--- src/parts.rt:109:19
 enum-known-part : tie.Need-enum-known-part
 enum-known-part c = search needs
 
--- src/parts.rt:109:25
 add-base-requires : tie.Need-add-base-requires
 add-base-requires c κs =
     let s = c .before .before .before .before .before .before .before .before in
@@ -18,11 +12,9 @@ add-base-requires c κs =
     let e = c .before .before .before .part .given .1 in
     (s .pre .0, rw e at (s .pre .1), rw e at (s .pre .2))
 
--- src/parts.rt:110:24
 enum-known-part-2 : tie.Need-enum-known-part-2
 enum-known-part-2 c = search needs
 
--- src/parts.rt:110:33
 add-copies-requires : tie.Need-add-copies-requires
 add-copies-requires c κs =
     let s = c .before .before .before .before .before .before .before .before in
@@ -30,28 +22,22 @@ add-copies-requires c κs =
     let e = c .before .before .before .part2 .given .1 in
     (s .pre .0, rw e at (s .pre .1), rw e at (s .pre .2))
 
--- src/parts.rt:96:1
 same-length : tie.Need-same-length
 same-length c = search needs
 
--- src/parts.rt:96:1
 same-length-2 : tie.Need-same-length-2
 same-length-2 c = search needs
 
--- src/parts.rt:96:1
 returns : tie.Need-returns
 returns c =
     rw (c .before .before .before .before .before .before .before .before .part .given .1) (c .before .before .before .before .add-base .ensures)
 
--- src/parts.rt:96:1
 same-length-3 : tie.Need-same-length-3
 same-length-3 c = search needs
 
--- src/parts.rt:96:1
 same-length-4 : tie.Need-same-length-4
 same-length-4 c = search needs
 
--- src/parts.rt:96:1
 returns-2 : tie.Need-returns-2
 returns-2 c =
     rw (c .before .before .before .before .before .before .before .before .part2 .given .1) (c .before .before .before .before .add-copies .ensures)

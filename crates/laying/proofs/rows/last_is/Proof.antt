@@ -2,30 +2,22 @@ use Rattle.ground.proofs.Tests.{tests}
 use borrow.Author.Needs.{needs}
 use Rattle.laying.proofs.rows.last_is.Statement.{statement}
 use Rattle.laying.proofs.rows.last_is.Tie as tie
-use Rattle.laying.proofs.rows.last_is.Reads as reads
-use Rattle.laying.proofs.rows.last_is.Lts as lts
 
--- src/rows.rt:29:26
 sub-result : tie.Need-sub-result
 sub-result c = search needs
 
--- src/rows.rt:29:21
 mul-result : tie.Need-mul-result
 mul-result c = search needs
 
--- src/rows.rt:29:16
 mul-result-2 : tie.Need-mul-result-2
 mul-result-2 c = search needs
 
--- src/rows.rt:29:16
 shared-slice-read-result : tie.Need-shared-slice-read-result
 shared-slice-read-result c = search needs
 
--- src/rows.rt:29:9
 returns : tie.Need-returns
 returns c = search tests
 
--- src/rows.rt:24:1
 returns-2 : tie.Need-returns-2
 returns-2 c = search tests
 

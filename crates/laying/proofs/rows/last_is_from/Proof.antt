@@ -4,39 +4,28 @@ use Rattle.laying.proofs.Copying.{last-some}
 use borrow.Author.Needs.{needs}
 use Rattle.laying.proofs.rows.last_is_from.Statement.{statement}
 use Rattle.laying.proofs.rows.last_is_from.Tie as tie
-use Rattle.laying.proofs.rows.last_is_from.Reads as reads
-use Rattle.laying.proofs.rows.last_is_from.Lts as lts
-use Rattle.laying.proofs.rows.last_is.Reads as last-is-reads
 
--- src/rows.rt:39:8
 last-is-requires : tie.Need-last-is-requires
 last-is-requires c κs = search needs
 
--- src/rows.rt:40:26
 sub-result : tie.Need-sub-result
 sub-result c = let p = c .before .before .before .args in omega (arith, last-some (p .runs .now) (p .first) (p .n) (p .head) (sym (c .before .last-is .ensures) ∙ c .if1 .taken))
 
--- src/rows.rt:40:21
 mul-result : tie.Need-mul-result
 mul-result c = search needs
 
--- src/rows.rt:40:21
 add-result : tie.Need-add-result
 add-result c = search needs
 
--- src/rows.rt:40:16
 mul-result-2 : tie.Need-mul-result-2
 mul-result-2 c = search needs
 
--- src/rows.rt:40:16
 shared-slice-read-result : tie.Need-shared-slice-read-result
 shared-slice-read-result c = search needs
 
--- src/rows.rt:40:9
 returns : tie.Need-returns
 returns c = rw (← c .before .before .last-is .ensures, c .before .if1 .taken)
 
--- src/rows.rt:35:1
 returns-2 : tie.Need-returns-2
 returns-2 c = rw (← c .before .last-is .ensures, c .if1 .left)
 

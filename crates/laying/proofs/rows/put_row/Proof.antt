@@ -5,46 +5,34 @@ use lib.ListN.{length-set}
 use borrow.Author.Needs.{needs}
 use Rattle.laying.proofs.rows.put_row.Statement.{statement}
 use Rattle.laying.proofs.rows.put_row.Tie as tie
-use Rattle.laying.proofs.rows.put_row.Reads as reads
-use Rattle.laying.proofs.rows.put_row.Lts as lts
 
--- src/rows.rt:18:5
 mul-runs : tie.Need-mul-runs
 mul-runs c = search needs
 
--- src/rows.rt:18:5
 slice-write-runs : tie.Need-slice-write-runs
 slice-write-runs c = search needs
 
--- src/rows.rt:19:10
 add-runs : tie.Need-add-runs
 add-runs c = search needs
 
--- src/rows.rt:19:5
 mul-runs-2 : tie.Need-mul-runs-2
 mul-runs-2 c = search needs
 
--- src/rows.rt:19:5
 slice-write-runs-2 : tie.Need-slice-write-runs-2
 slice-write-runs-2 c = simp length-set (omega arith)
 
--- src/rows.rt:20:10
 add-runs-2 : tie.Need-add-runs-2
 add-runs-2 c = search needs
 
--- src/rows.rt:20:5
 mul-runs-3 : tie.Need-mul-runs-3
 mul-runs-3 c = search needs
 
--- src/rows.rt:20:5
 slice-write-runs-3 : tie.Need-slice-write-runs-3
 slice-write-runs-3 c = simp length-set (omega arith)
 
--- src/rows.rt:14:1
 same-length : tie.Need-same-length
 same-length c = search needs
 
--- src/rows.rt:14:1
 returns : tie.Need-returns
 returns c = let a : c .args .at + 1 ≡ suc (c .args .at) = omega arith in let b : c .args .at + 2 ≡ suc (suc (c .args .at)) = omega arith in rw (a, b)
 

@@ -5,23 +5,16 @@ use Rattle.ground.proofs.Tests.{tests}
 use borrow.Author.Needs.{needs}
 use Rattle.laying.proofs.trits.trit_of.Statement.{statement}
 use Rattle.laying.proofs.trits.trit_of.Tie as tie
-use Rattle.laying.proofs.trits.trit_of.Reads as reads
-use Rattle.laying.proofs.trits.trit_of.Lts as lts
-use Rattle.lexis.proofs.classes.class_at.Reads as class-at-reads
 
--- src/trits.rt:16:8
 class-at-requires : tie.Need-class-at-requires
 class-at-requires c κs = search needs
 
--- src/trits.rt:17:9
 returns : tie.Need-returns
 returns c = search (tests, ← c .before .class-at .ensures)
 
--- src/trits.rt:20:9
 returns-2 : tie.Need-returns-2
 returns-2 c = let b = c .before .before .before .args .b in let e : c .before .before .before .args .b - 48 ≡ 0 = omega arith in rw e (search (tests, ← c .before .before .class-at .ensures))
 
--- src/trits.rt:12:1
 returns-3 : tie.Need-returns-3
 returns-3 c = search (tests, ← c .before .before .class-at .ensures)
 
