@@ -1,8 +1,8 @@
 //! The text layer in plain Rust, to compare the proved library with.
 //!
-//! It is written from documents 01 (sections Text and Refusal numbers) and 001 (lexical structure) and from the decided points of
-//! `docs/DECISIONS.md`, without a look at the proved code or its definitions, so that a misreading would have to be made twice to
-//! stay unseen. It uses no `unsafe`.
+//! It is written from documents 01 (sections Text and Refusal numbers) and 001 (lexical structure) and from `docs/DECISIONS.md`, not
+//! from the proved reader (the crates `lexis` and `form`) or its definitions, so that a misreading of the documents would have to be
+//! made twice to stay unseen. The decided points are common to both. It uses no `unsafe`.
 
 #![forbid(unsafe_code)]
 
