@@ -121,7 +121,7 @@ pub fn fits(kind: u8, width: u64, a: u64, b: u64, c: u64) -> bool
     if kind < 1 {
         return false;
     }
-    if kind == 1 {
+    if kind < 2 {
         return wide(width);
     }
     if kind == 2 {

@@ -17,7 +17,7 @@ wide-requires c κs = search needs
 
 returns-2 : tie.Need-returns-2
 unfolding kindAt
-returns-2 c = rw (c .before .if2 .taken) (c .wide .ensures)
+returns-2 c = let o : c .before .before .before .args .kind ≡ 1 = omega arith in rw o (c .wide .ensures)
 
 fits-output-requires : tie.Need-fits-output-requires
 fits-output-requires c κs = search needs
