@@ -1,4 +1,4 @@
-pub mod IndexLaws
+pub mod TokenLaws
 pub mod NameLaws
 pub mod RefLaws
 pub mod RowLaws

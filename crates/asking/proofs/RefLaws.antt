@@ -26,7 +26,7 @@ use Rattle.asking.specs.declared.Asks.{Asks}
 use Rattle.asking.specs.declared.Asks.the-variants.{Member}
 use Rattle.asking.specs.declared.Misnaming.{Misnaming}
 use Rattle.asking.specs.declared.Misnaming.the-variants.{At, Nowhere}
-use Rattle.asking.proofs.IndexLaws.{members-small}
+use Rattle.asking.proofs.TokenLaws.{members-small}
 use Rattle.asking.proofs.RowLaws.{behind-note, row-first}
 
 -- THE KINDS of the noted rows

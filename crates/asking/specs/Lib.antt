@@ -1,2 +1,3 @@
 pub mod Namesakes
 pub mod References
+pub mod Sound
