@@ -1,4 +1,5 @@
-pub mod TokenLaws
+pub mod FormLaws
 pub mod NameLaws
 pub mod RefLaws
 pub mod RowLaws
+pub mod TokenLaws

@@ -1,6 +1,6 @@
 -- How a comparison of strings goes on, and what a walk over noted names finds.
 use mathlib.Core.Path.{_≡_, refl, sym, ap, _∙_}
-use mathlib.Core.Bool.{Bool, true, false}
+use mathlib.Core.Bool.{true, false}
 use mathlib.Core.List.{List, [], _∷_, _++_}
 use Prim.Native.Nat.{ℕ, zero, suc, _+_, _-_, _*_, _<_, _≤_}
 use native.Mathlib.Omega.{arith}
@@ -14,7 +14,7 @@ use Rattle.ground.specs.Text.{same}
 use Rattle.ground.proofs.Bools.{bool-cases}
 use Rattle.lexis.specs.Pieces.{decoded}
 use Rattle.netlist.specs.Rules.{taken, ioNames, namesAs}
-use Rattle.saying.specs.Notes.{IoNote, CellNote, ioNote, cellNote, iosSaid, cellsSaid, Spells, SpellIos, SpellCells, more, none}
+use Rattle.saying.specs.Notes.{IoNote, CellNote, ioNote, cellNote, iosSaid, cellsSaid, Spells, SpellIos, SpellCells, more}
 use Rattle.asking.specs.Namesakes.{someRow, namesake, ioNamesake, cellNamesake, Sized, IosNoted, CellsNoted}
 use Rattle.asking.proofs.RowLaws.{notes-room, behind-note, some-step}
 

@@ -1,14 +1,12 @@
 -- What the tables say of references is what the notes say; and how the walk over the members of a set goes.
 use mathlib.Core.Path.{_≡_, refl, sym, ap, _∙_}
 use mathlib.Core.Bool.{Bool, true, false, not, _&&_}
-use mathlib.Core.List.{List, [], _∷_, _++_, map}
+use mathlib.Core.List.{List, [], _∷_, _++_}
 use Prim.Native.Nat.{ℕ, zero, suc, _+_, _-_, _*_, _<_, _≤_}
-use native.Mathlib.Nat.{suc-mul}
 use native.Mathlib.Omega.{arith}
 use lib.Dec.{leb, ltb}
 use lib.ListN.{length, drop, getD}
 use borrow.Author.Tests.{leb-true, ltb-true}
-use Rattle.ground.specs.Choice.{pick}
 use Rattle.ground.specs.Lists.{joined, every}
 use Rattle.ground.specs.Regions.{zeros, pad}
 use Rattle.ground.proofs.Bools.{bool-cases, every-first}
@@ -20,11 +18,10 @@ use Rattle.form.specs.declared.Toured.the-variants as toured
 use Rattle.form.proofs.Steps.{tour-starts, tour-goes}
 use Rattle.netlist.specs.Rules.{refers, isMember}
 use Rattle.saying.specs.Values.{rowOf}
-use Rattle.saying.specs.Notes.{MetaNote, metaNote, metasSaid, Maps}
+use Rattle.saying.specs.Notes.{MetaNote, metaNote, Maps}
 use Rattle.asking.specs.References.{allowed, kindsSaid, misnamed, firstMisnamed, refersIn, misnamedIn}
 use Rattle.asking.specs.declared.Asks.{Asks}
 use Rattle.asking.specs.declared.Asks.the-variants.{Member}
-use Rattle.asking.specs.declared.Misnaming.{Misnaming}
 use Rattle.asking.specs.declared.Misnaming.the-variants.{At, Nowhere}
 use Rattle.asking.proofs.TokenLaws.{members-small}
 use Rattle.asking.proofs.RowLaws.{behind-note, row-first}

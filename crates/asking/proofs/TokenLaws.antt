@@ -2,7 +2,7 @@
 use mathlib.Core.Path.{_≡_, refl, subst}
 use mathlib.Core.Bool.{Bool, true, false, _||_}
 use mathlib.Core.List.{List, [], _∷_}
-use Prim.Native.Nat.{ℕ, zero, suc, _+_, _≤_, _<_}
+use Prim.Native.Nat.{ℕ, zero, suc, _+_, _<_}
 use native.Mathlib.Omega.{arith}
 use lib.Dec.{ltb, eqb}
 use lib.ListN.{length, drop, getD}
@@ -13,13 +13,11 @@ use Rattle.ground.proofs.Bools.{bool-cases, never-both, every-more, or-left}
 use Rattle.kinds.proofs.Widths.{picked}
 use Rattle.lexis.specs.Bytes.{isConstant, isLetter, isFeed, isSpecial}
 use Rattle.lexis.specs.Pieces.{spanEnd, digitsFrom, numeralAt, suffixAt, quotedAt, stringAt, decoded}
-use Rattle.lexis.specs.Tokens.{refused, plain, judged, single, signedOf, opensPlaceholder, follows, constantOf, cellFrom, cellOf, namedFrom, ioOf, stringStep, numberOf, metaOf, wordOf, longOf, tokenFrom, tokenAt, insideAt, cell, io, number, meta, string, placeholder}
-use Rattle.lexis.specs.declared.Reader.{Reader}
+use Rattle.lexis.specs.Tokens.{refused, plain, judged, single, signedOf, opensPlaceholder, follows, constantOf, cellOf, namedFrom, ioOf, stringStep, numberOf, metaOf, wordOf, longOf, tokenFrom, tokenAt, insideAt, cell, io, number, meta, string, placeholder}
 use Rattle.lexis.specs.declared.Token.{Token}
 use Rattle.lexis.specs.declared.Step.{Step}
 use Rattle.lexis.specs.declared.Step.the-variants as step
 use Rattle.lexis.specs.declared.pieces.Numeral.{Numeral}
-use Rattle.lexis.specs.declared.pieces.Suffix.{Suffix}
 use Rattle.lexis.specs.declared.pieces.Quoted.{Quoted}
 use Rattle.lexis.specs.declared.pieces.Quoted.the-variants.{Closed, Malformed}
 use Rattle.lexis.proofs.Strings.{closed-size}

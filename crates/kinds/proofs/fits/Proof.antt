@@ -1,7 +1,6 @@
-use mathlib.Core.Path.{_≡_, sym, _∙_}
+use mathlib.Core.Path.{_≡_, _∙_}
 use native.Mathlib.Omega.{arith}
-use Prim.Native.Nat.{_<_}
-use Rattle.kinds.specs.Kinds.{kindAt, noKind}
+use Rattle.kinds.specs.Kinds.{kindAt}
 use Rattle.kinds.proofs.Numbers.{no-kind}
 use Rattle.kinds.proofs.Widths.{alike-at, gate-at, compared-at}
 use borrow.Author.Needs.{needs}

@@ -1,7 +1,6 @@
 use native.Mathlib.Omega.{arith}
 use borrow.Author.Tests.{eq-eqb, ne-eqb}
 use Rattle.kinds.proofs.Widths.{wide-is}
-use borrow.Author.Needs.{needs}
 use Rattle.kinds.proofs.fits_carry.Statement.{statement}
 use Rattle.kinds.proofs.fits_carry.Tie as tie
 

@@ -1,5 +1,4 @@
 use borrow.Author.Tests.{le-leb, lt-leb}
-use borrow.Author.Needs.{needs}
 use Rattle.kinds.proofs.wide.Statement.{statement}
 use Rattle.kinds.proofs.wide.Tie as tie
 

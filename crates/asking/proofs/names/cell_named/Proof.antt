@@ -1,6 +1,5 @@
 use Rattle.asking.specs.Namesakes.{cellNamesake}
 use Rattle.asking.proofs.RowLaws.{row-first, row-word}
-use mathlib.Core.Path.{sym, _∙_}
 use borrow.Author.Tests.{eq-eqb, ne-eqb}
 use borrow.Author.Needs.{needs}
 use Rattle.asking.proofs.names.cell_named.Statement.{statement}

@@ -1,6 +1,5 @@
 use mathlib.Core.Path.{sym, _∙_}
 use borrow.Author.Tests.{eq-eqb, ne-eqb}
-use borrow.Author.Needs.{needs}
 use Rattle.asking.proofs.names.is_namesake.Statement.{statement}
 use Rattle.asking.proofs.names.is_namesake.Tie as tie
 

@@ -1,5 +1,4 @@
 use borrow.Author.Tests.{lt-ltb, le-ltb, eq-eqb, ne-eqb}
-use borrow.Author.Needs.{needs}
 use Rattle.asking.proofs.ranges.ends_before.Statement.{statement}
 use Rattle.asking.proofs.ranges.ends_before.Tie as tie
 

@@ -1,13 +1,10 @@
 -- The first member left that is wrong is the first of all, and the tables say of each what the notes say.
-use Prim.Native.Nat.{ℕ}
 use mathlib.Core.Path.{_≡_, refl, sym, _∙_}
-use native.Mathlib.Omega.{arith}
 use Rattle.form.specs.Walks.{membersLeft}
 use Rattle.form.proofs.Steps.{tour-shrinks}
-use Rattle.netlist.specs.Rules.{isMember}
-use Rattle.asking.specs.References.{kindsSaid, misnamed, firstMisnamed, misnamedIn}
+use Rattle.asking.specs.References.{firstMisnamed, misnamedIn}
 use Rattle.asking.specs.declared.Asks.the-variants.{Member}
-use Rattle.asking.proofs.RefLaws.{misnamed-said, member-wrong, member-right, members-done, members-none, whole-walk}
+use Rattle.asking.proofs.RefLaws.{member-wrong, member-right, members-done, members-none, whole-walk}
 use borrow.Author.Needs.{needs}
 use Rattle.asking.proofs.refs.first_misnamed_member.Statement.{statement}
 use Rattle.asking.proofs.refs.first_misnamed_member.Tie as tie
