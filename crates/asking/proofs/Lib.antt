@@ -1,4 +1,3 @@
-pub mod FormLaws
 pub mod NameLaws
 pub mod RefLaws
 pub mod RowLaws

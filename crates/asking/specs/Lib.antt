@@ -1,3 +1,2 @@
 pub mod Namesakes
 pub mod References
-pub mod Sound
