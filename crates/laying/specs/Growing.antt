@@ -66,7 +66,7 @@ abbrev pub Added : List ℕ → Laid → List ℕ → ℕ → Laying → List �
 Added runs so row size (laying.Laid so′) runs′ = NewRow runs so row size so′ runs′
 Added runs so row size laying.Full runs′ = so .runs ≡ 4096
 
--- a constant lies inside the text; a piece has numbers of the text's size
+-- a constant lies inside the text; the numbers of a piece are at most 65,535
 abbrev pub BaseIn : List ℕ → Base → Type 0
 BaseIn text (base.Constant s) = s .from + s .size ≤ length text
 BaseIn text (base.Cell p) = (p .cell ≤ 65535) × (p .offset ≤ 65535)
