@@ -24,7 +24,7 @@ pub enum Misnaming {
 }
 
 // A word of a table; 0 past its end.
-fn word_at(table: &[u32], at: usize) -> u32
+pub fn word_at(table: &[u32], at: usize) -> u32
     ensures { λ r. ⌜ r ≡ getD (now (table .entry)) at 0 ⌝ }
 {
     if at < table.len() {

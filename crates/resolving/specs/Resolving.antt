@@ -1,0 +1,78 @@
+-- Resolving by the tables: the map of cell numbers, and the widths in the cell rows.
+use mathlib.Core.Path.{_≡_}
+use Prim.Native.Nat.{ℕ, _+_, _-_, _*_, _<_, _≤_}
+use mathlib.Core.Bool.{Bool, true, false, not, _&&_}
+use mathlib.Core.List.{List, [], _∷_, map}
+use mathlib.Core.Option.{Option, none, some}
+use lib.Dec.{leb, ltb, eqb}
+use lib.ListN.{length, getD}
+use Rattle.ground.specs.Choice.{pick}
+use Rattle.ground.specs.Lists.{every, joined}
+use Rattle.ground.specs.Regions.{pad}
+use Rattle.ground.specs.declared.Place.{Place}
+use Rattle.form.specs.declared.Piece.{Piece}
+use Rattle.form.specs.declared.Base.{Base}
+use Rattle.form.specs.declared.Base.the-variants as base
+use Rattle.form.specs.declared.Operand.{Operand}
+use Rattle.netlist.specs.Netlist.{Run, const, piece}
+use Rattle.netlist.specs.Tables.{runRows}
+use Rattle.saying.specs.Values.{rowOf, rowRun}
+use Rattle.saying.specs.Pieces.{PieceAt, operandPieces, firstUnresolved}
+use Rattle.saying.specs.Notes.{Maps, operandWord}
+use Rattle.resolving.specs.declared.Lost.{Lost}
+use Rattle.resolving.specs.declared.Lost.the-variants.{At, Nowhere}
+
+-- NUMBERS TO ROWS
+abbrev pub rowWord : List ℕ → ℕ → ℕ
+rowWord numbered head = pick (eqb head 0) 0 (getD numbered (head - 1) 0)
+
+-- a run whose cell is declared
+abbrev pub isDeclared : List ℕ → Run → Bool
+isDeclared numbers (const ts) = true
+isDeclared numbers (piece n o w) = ltb n 65536 && leb 1 (rowOf numbers n)
+
+pub record Numbered (numbers : List ℕ) (rs : List Run) (runs : List ℕ) (n : ℕ) : Type 0 where
+  pub rows : runs ≡ pad 12288 (runRows 0 rs)
+  pub count : length rs ≡ n
+  pub few : n ≤ 4096
+  pub declared : every (isDeclared numbers) rs ≡ true
+
+pub record RunsNumbered (runs : List ℕ) (n : ℕ) : Type 0 where
+  pub long : length runs ≡ 12288
+  pub few : n ≤ 4096
+
+abbrev pub RowsRuns : List ℕ → ℕ → List ℕ → List ℕ → Type 0
+RowsRuns numbered n runs runs′ =
+    (numbers : List ℕ) (rs : List Run) → Maps numbers numbered → Numbered numbers rs runs n → runs′ ≡ pad 12288 (runRows 0 (map (rowRun numbers) rs))
+
+-- RULE 14. The cells' widths stand in the cell rows.
+pub record Looks (numbers widths numbered cells : List ℕ) : Type 0 where
+  pub maps : Maps numbers numbered
+  pub count : length numbers ≡ length widths
+  pub width : (i : ℕ) → i < length widths → getD cells (i * 9 + 1) 0 ≡ getD widths i 0
+
+abbrev pub resolvesIn : List ℕ → List ℕ → Piece → Bool
+resolvesIn numbered cells p =
+    leb 1 (getD numbered (p .cell) 0) && leb (p .offset + p .width) (getD cells ((getD numbered (p .cell) 0 - 1) * 9 + 1) 0)
+
+-- whether what a part repeats is a piece that does not resolve
+abbrev pub baseLost : List ℕ → List ℕ → Base → Bool
+baseLost numbered cells (base.Constant s) = false
+baseLost numbered cells (base.Cell p) = not (resolvesIn numbered cells p)
+
+abbrev pub lostAt : Option Place → Lost
+lostAt none = Nowhere
+lostAt (some p) = At p
+
+-- the operand that a word of the work space tells
+abbrev pub operandOf : ℕ → Operand
+operandOf word = record { given = not (eqb word 0); at = word - 1; width = 0 }
+
+abbrev pub FindsIn : List ℕ → Operand → List ℕ → List ℕ → Lost → Type 0
+FindsIn text o numbered cells r =
+    (numbers widths : List ℕ) → Looks numbers widths numbered cells → r ≡ lostAt (firstUnresolved numbers widths (operandPieces text o))
+
+abbrev pub Finds : List ℕ → List ℕ → ℕ → List ℕ → List ℕ → Lost → Type 0
+Finds text places n numbered cells r =
+    (numbers widths : List ℕ) (os : List Operand) → Looks numbers widths numbered cells → places ≡ pad 1536 (map operandWord os) → length os ≡ n
+    → r ≡ lostAt (firstUnresolved numbers widths (joined (operandPieces text) os))
