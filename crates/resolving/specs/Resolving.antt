@@ -1,13 +1,13 @@
 -- Resolving by the tables: the map of cell numbers, and the widths in the cell rows.
 use mathlib.Core.Path.{_≡_}
-use Prim.Native.Nat.{ℕ, _+_, _-_, _*_, _<_, _≤_}
+use Prim.Native.Nat.{ℕ, zero, suc, _+_, _-_, _*_, _<_, _≤_}
 use mathlib.Core.Bool.{Bool, true, false, not, _&&_}
 use mathlib.Core.List.{List, [], _∷_, map}
 use mathlib.Core.Option.{Option, none, some}
 use lib.Dec.{leb, ltb, eqb}
-use lib.ListN.{length, getD}
+use lib.ListN.{length, drop, getD}
 use Rattle.ground.specs.Choice.{pick}
-use Rattle.ground.specs.Lists.{every, joined}
+use Rattle.ground.specs.Lists.{every}
 use Rattle.ground.specs.Regions.{pad}
 use Rattle.ground.specs.declared.Place.{Place}
 use Rattle.form.specs.declared.Piece.{Piece}
@@ -17,8 +17,9 @@ use Rattle.form.specs.declared.Operand.{Operand}
 use Rattle.netlist.specs.Netlist.{Run, const, piece}
 use Rattle.netlist.specs.Tables.{runRows}
 use Rattle.saying.specs.Values.{rowOf, rowRun}
-use Rattle.saying.specs.Pieces.{PieceAt, operandPieces, firstUnresolved}
-use Rattle.saying.specs.Notes.{Maps, operandWord}
+use Rattle.form.specs.Parts.{PartAt, partsAt}
+use Rattle.saying.specs.Pieces.{baseIn}
+use Rattle.saying.specs.Notes.{Maps}
 use Rattle.resolving.specs.declared.Lost.{Lost}
 use Rattle.resolving.specs.declared.Lost.the-variants.{At, Nowhere}
 
@@ -64,15 +65,19 @@ abbrev pub lostAt : Option Place → Lost
 lostAt none = Nowhere
 lostAt (some p) = At p
 
+-- the first part of a list that does not resolve
+unfoldable pub lostFrom : List ℕ → List ℕ → List PartAt → Lost
+lostFrom numbered cells [] = Nowhere
+lostFrom numbered cells (p ∷ ps) = elim (baseLost numbered cells (baseIn (p .part))) [ true ↦ At (p .place) | false ↦ lostFrom numbered cells ps ]
+
 -- the operand that a word of the work space tells
 abbrev pub operandOf : ℕ → Operand
 operandOf word = record { given = not (eqb word 0); at = word - 1; width = 0 }
 
-abbrev pub FindsIn : List ℕ → Operand → List ℕ → List ℕ → Lost → Type 0
-FindsIn text o numbered cells r =
-    (numbers widths : List ℕ) → Looks numbers widths numbered cells → r ≡ lostAt (firstUnresolved numbers widths (operandPieces text o))
-
-abbrev pub Finds : List ℕ → List ℕ → ℕ → List ℕ → List ℕ → Lost → Type 0
-Finds text places n numbered cells r =
-    (numbers widths : List ℕ) (os : List Operand) → Looks numbers widths numbered cells → places ≡ pad 1536 (map operandWord os) → length os ≡ n
-    → r ≡ lostAt (firstUnresolved numbers widths (joined (operandPieces text) os))
+-- .. and over the operands that n words tell
+unfoldable pub lostOf : List ℕ → List ℕ → List ℕ → ℕ → List ℕ → Lost
+lostOf text numbered cells zero places = Nowhere
+lostOf text numbered cells (suc n) places = elim (lostFrom numbered cells (partsAt text (operandOf (getD places 0 0)))) [
+  | At p ↦ At p
+  | Nowhere ↦ lostOf text numbered cells n (drop 1 places)
+]

@@ -11,12 +11,12 @@ use form::walks::walk_of;
 use form::walks::walk_step;
 use ground::Place;
 ghost use mathlib.Core.Path.{_≡_};
-ghost use mathlib.Core.List.{List};
-ghost use Prim.Native.Nat.{ℕ, _≤_};
+ghost use Prim.Native.Nat.{_≤_};
 ghost use lib.ListN.{length};
 ghost use Rattle.lexis.specs.Bytes.{table};
+ghost use Rattle.form.specs.Parts.{partsAt};
 ghost use Rattle.saying.specs.Pieces.{baseIn};
-ghost use Rattle.resolving.specs.Resolving.{rowWord, resolvesIn, baseLost, operandOf, RunsNumbered, RowsRuns, FindsIn, Finds};
+ghost use Rattle.resolving.specs.Resolving.{rowWord, RunsNumbered, RowsRuns, resolvesIn, baseLost, lostFrom, operandOf, lostOf};
 
 // The place of the first piece that does not resolve.
 pub enum Lost {
@@ -46,4 +46,100 @@ pub fn row_runs(map: &[u32], runs: &mut [u32], n: usize)
         runs[k] = head;
         i += 1;
     }
+}
+
+// Whether a piece resolves: its cell is declared, and it ends within the cell's width.
+fn resolves(map: &[u32], cells: &[u32], p: Piece) -> bool
+    ensures { λ r. ⌜ r ≡ resolvesIn (now (map .entry)) (now (cells .entry)) p ⌝ }
+{
+    let row = word_at(map, p.cell as usize) as usize;
+    if row < 1 {
+        return false;
+    }
+    let end = (p.offset as u64) + (p.width as u64);
+    end <= (word_at(cells, (row - 1) * 9 + 1) as u64)
+}
+
+// What a part repeats, or is; how often does not matter here.
+fn base_of(part: Part) -> Base
+    ensures { λ r. ⌜ r ≡ baseIn part ⌝ }
+{
+    match part {
+        Part::One(b) => b,
+        Part::Repeated(b, _) => b,
+    }
+}
+
+fn is_lost(map: &[u32], cells: &[u32], base: Base) -> bool
+    ensures { λ r. ⌜ r ≡ baseLost (now (map .entry)) (now (cells .entry)) base ⌝ }
+{
+    match base {
+        Base::Constant(_) => false,
+        Base::Cell(p) => {
+            if resolves(map, cells, p) {
+                return false;
+            }
+            true
+        }
+    }
+}
+
+// The first piece of an operand that does not resolve.
+fn lost_in(t: &[u8; 256], text: &[u8], operand: Operand, map: &[u32], cells: &[u32]) -> Lost
+    requires { ⌜ (now t ≡ table) × (length (now text) ≤ 65536) ⌝ }
+    ensures { λ r. ⌜ r ≡ lostFrom (now (map .entry)) (now (cells .entry)) (partsAt (now (text .entry)) operand) ⌝ }
+{
+    let mut walk = walk_of(t, text, operand);
+    loop {
+        let step = walk_step(t, text, walk);
+        let Walked::Part(part, place, next) = step else {
+            return Lost::Nowhere;
+        };
+        let base = base_of(part);
+        if is_lost(map, cells, base) {
+            return Lost::At(place);
+        }
+        walk = next;
+    }
+}
+
+fn operand_of(word: u32) -> Operand
+    ensures { λ r. ⌜ r ≡ operandOf word ⌝ }
+{
+    if word == 0 {
+        return Operand {
+            given: false,
+            at: 0,
+            width: 0,
+        };
+    }
+    Operand {
+        given: true,
+        at: (word - 1) as usize,
+        width: 0,
+    }
+}
+
+// The first piece that does not resolve, over the operands that the first n words of `places` tell.
+pub fn first_lost(
+    t: &[u8; 256],
+    text: &[u8],
+    places: &[u32],
+    n: usize,
+    map: &[u32],
+    cells: &[u32],
+) -> Lost
+    requires { ⌜ (now t ≡ table) × (length (now text) ≤ 65536) × (n ≤ length (now places)) ⌝ }
+    ensures { λ r. ⌜ r ≡ lostOf (now (text .entry)) (now (map .entry)) (now (cells .entry)) n (now (places .entry)) ⌝ }
+{
+    let mut i: usize = 0;
+    while i < n {
+        let operand = operand_of(places[i]);
+        let lost = lost_in(t, text, operand, map, cells);
+        if let Lost::At(place) = lost {
+            return Lost::At(place);
+        }
+        i += 1;
+    }
+    Lost::Nowhere
 }

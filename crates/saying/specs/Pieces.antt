@@ -21,7 +21,7 @@ pub record PieceAt : Type 0 where
   pub piece : Piece
   pub place : Place
 
-abbrev basePieces : Place → Base → List PieceAt
+abbrev pub basePieces : Place → Base → List PieceAt
 basePieces k (base.Constant s) = []
 basePieces k (base.Cell p) = record { piece = p; place = k } ∷ []
 
