@@ -1,2 +1,4 @@
+pub mod Finishing
+pub mod Final
 pub mod Cases
 pub mod Texts
