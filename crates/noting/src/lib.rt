@@ -1,6 +1,8 @@
 // Noting: one declaration of a text, after its form: rules 9 to 13 are asked by number, and what the declaration says is noted in
 // the lent tables. It promises the refusal that the rules give, or tables that note one declaration more. Asking and laying stand
 // below it, reading above.
+pub mod cells;
+
 use ground::Refusal;
 
 // How much the text brought so far: rows, members of sets, trits of attributes, runs, known trits in them, declared cell bits,
