@@ -3,7 +3,7 @@
 // below it, reading above.
 mod parts;
 mod rows;
-mod trits;
+pub mod trits;
 
 use form::Operand;
 use form::Walked;

@@ -23,14 +23,7 @@ fn trit_of(t: &[u8; 256], b: u8) -> u8
 }
 
 // The trits that `size` bytes of the text mean, from the place `at` of the run trits on.
-pub(crate) fn copy_trits(
-    t: &[u8; 256],
-    text: &[u8],
-    from: usize,
-    size: usize,
-    trits: &mut [u8],
-    at: usize,
-)
+pub fn copy_trits(t: &[u8; 256], text: &[u8], from: usize, size: usize, trits: &mut [u8], at: usize)
     requires { ⌜ (now t ≡ table) × (from + size ≤ length (now text)) × (at + size ≤ length (now trits)) ⌝ }
     ensures { λ _. ⌜ now (trits .exit) ≡ sets (now (trits .entry)) at (map tritOf (part from size (now (text .entry)))) ⌝ }
 {

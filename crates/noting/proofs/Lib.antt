@@ -12,3 +12,11 @@ pub mod CellTwice
 pub mod CellKeep
 pub mod CellRules
 pub mod Forming
+pub mod Growing
+pub mod Limits
+pub mod Passing
+pub mod IoNotes
+pub mod MetaLaws
+pub mod MetaNotes
+pub mod MetaAfter
+pub mod MetaTop

@@ -1,3 +1,5 @@
 pub mod Noted
 pub mod Formed
 pub mod CellAdding
+pub mod Rulings
+pub mod MetaRows

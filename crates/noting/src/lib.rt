@@ -2,6 +2,8 @@
 // the lent tables. It promises the refusal that the rules give, or tables that note one declaration more. Asking and laying stand
 // below it, reading above.
 pub mod cells;
+pub mod ios;
+pub mod metas;
 
 use ground::Refusal;
 
@@ -23,5 +25,11 @@ pub struct Tally {
 // A declaration more is noted, or why it is refused.
 pub enum Noting {
     More(Tally),
+    Refused(Refusal),
+}
+
+// Whether the rules 9 to 13 let a declaration pass.
+pub enum Ruling {
+    Passed,
     Refused(Refusal),
 }
