@@ -15,7 +15,7 @@ use Rattle.reading.specs.declared.Read.the-variants as read
 
 -- the work space, in words
 abbrev pub workLength : ℕ
-workLength = 147456
+workLength = 132608
 
 pub record Outcome : Type 0 where
   pub answer : Read
@@ -37,6 +37,11 @@ left rows strings bits work (says N) =
     (over bitsLength (bitsOf (layout N)) bits) (cleared workLength work)
 left rows strings bits work (refused g) =
     made (read.Refused g) (cleared rowsLength rows) (cleared stringsLength strings) (cleared bitsLength bits) (cleared workLength work)
+
+-- the same of slices that have just the fixed lengths
+abbrev pub filled : Reading → Outcome
+filled (says N) = made read.Accepted (rowsOf (layout N)) (layout N .strings) (bitsOf (layout N)) (zeros workLength)
+filled (refused g) = made (read.Refused g) (zeros rowsLength) (zeros stringsLength) (zeros bitsLength) (zeros workLength)
 
 -- THE OUTCOME OF READING
 unfoldable pub readOf : List ℕ → List ℕ → List ℕ → List ℕ → List ℕ → Outcome

@@ -1,5 +1,5 @@
 // Reading: any bytes in; a netlist in lent tables, or a numbered refusal with its place. It promises the outcome that the
-// definitions of specs/ give, every lent byte included. Form and netlist stand below it, the programs above.
+// definitions of specs/ give, every lent byte included. Noting, resolving and settling stand below it, the programs above.
 mod finish;
 
 use ground::Refusal;
