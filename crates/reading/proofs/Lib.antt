@@ -1,3 +1,5 @@
+pub mod Answering
+pub mod Declaring
 pub mod Finishing
 pub mod Final
 pub mod Cases
