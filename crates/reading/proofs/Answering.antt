@@ -7,10 +7,11 @@ use Prim.Native.Nat.{ℕ, zero, suc, _+_, _-_, _*_, _<_, _≤_}
 use native.Mathlib.Nat.{zero-add, suc-mul, suc-add, add-assoc}
 use native.Mathlib.Omega.{arith}
 use lib.Dec.{ltb}
-use lib.ListN.{length, drop, getD, length-append, List·getD-append}
+use lib.ListN.{length, getD, length-append, List·getD-append}
 use lib.Seq.{getD-append-add}
 use borrow.Author.Tests.{lt-ltb, le-ltb}
 use Rattle.ground.specs.Lists.{joined, every}
+use Rattle.ground.proofs.Outcome.{any-two}
 use Rattle.ground.specs.Regions.{pad, zeros, over}
 use Rattle.ground.specs.Refusals.{at, refusal}
 use Rattle.ground.specs.declared.Place.{Place}
@@ -19,7 +20,6 @@ use Rattle.lexis.specs.Whole.{wholeOf}
 use Rattle.lexis.specs.declared.Whole.the-variants as whole
 use Rattle.netlist.specs.Netlist.{Cell, Netlist}
 use Rattle.netlist.specs.Rules.{widthsOf}
-use Rattle.netlist.specs.Tables.{rowsLength, stringsLength, bitsLength}
 use Rattle.netlist.specs.Good.{short}
 use Rattle.saying.specs.Pieces.{operandPieces, firstUnresolved}
 use Rattle.saying.specs.Rules.{Sofar}
@@ -32,7 +32,7 @@ use Rattle.resolving.specs.declared.Lost.{Lost}
 use Rattle.resolving.specs.declared.Lost.the-variants as lost
 use Rattle.resolving.proofs.Finding.{all-found}
 use Rattle.reading.specs.Reading.{Reading, says, refused, declarationsFrom, netlistOf, readSound, reading}
-use Rattle.reading.specs.Outcome.{Outcome, made, left, filled, readOf, workLength}
+use Rattle.reading.specs.Outcome.{Outcome, made, left, filled, behindRows, behindStrings, behindBits, behindWork, readOf}
 use Rattle.reading.specs.Finish.{Ready, Settled}
 use Rattle.reading.specs.Going.{Blank, Whole, AllNoted, AllOf}
 use Rattle.reading.specs.Answers.{FindsLost, Laid, AnswersOf, Answers, ClearsOf, Clears, Ends}
@@ -145,16 +145,26 @@ module _ (text : List ℕ) where
   unfolding reading
   unsound-read g e = rw e
 
--- SLICES of any length
-abbrev behind : List ℕ → List ℕ → List ℕ → List ℕ → Outcome → Outcome
-behind rows strings bits work o = made (o .answer) (o .rows ++ drop rowsLength rows) (o .strings ++ drop stringsLength strings) (o .bits ++ drop bitsLength bits) (o .work ++ drop workLength work)
+-- A REFUSAL leaves the tables zero
+module _ {r : Read} {rows strings bits : List ℕ} where
+  pub clears-none : r ≡ read.Accepted → Clears r rows strings bits read.Accepted rows strings bits
+  clears-none e = record { of = subst (λ (x : Read). ClearsOf x rows strings bits read.Accepted rows strings bits) (sym e) (refl, refl, refl, refl) }
 
-filled-behind : (rows strings bits work : List ℕ) (v : Reading) → behind rows strings bits work (filled v) ≡ left rows strings bits work v
+  pub clears-all : (g : Refusal) → r ≡ read.Refused g → {rows′ strings′ bits′ : List ℕ} → rows′ ≡ zeros 26307 → strings′ ≡ zeros 16384 → bits′ ≡ zeros 393728
+      → Clears r rows strings bits (read.Refused g) rows′ strings′ bits′
+  clears-all g e {rows′} {strings′} {bits′} a b c = record { of = subst (λ (x : Read). ClearsOf x rows strings bits (read.Refused g) rows′ strings′ bits′) (sym e) (refl, a, b, c) }
+
+-- SLICES of any length
+filled-behind : (rows strings bits work : List ℕ) (v : Reading) → behindRows rows (behindStrings strings (behindBits bits (behindWork work (filled v)))) ≡ left rows strings bits work v
 unfolding over
 filled-behind rows strings bits work (says N) = refl
 filled-behind rows strings bits work (refused g) = refl
 
 module _ (text rows strings bits work : List ℕ) where
+  -- the contract of `read_text` allows one outcome
+  pub read-one : (o p : Outcome) → o ≡ readOf text rows strings bits work → p ≡ readOf text rows strings bits work → o ≡ p
+  read-one = any-two (λ (t : List ℕ). readOf t rows strings bits work) text
+
   pub short-rows : length rows < 26307 → made (read.Refused (refusal 1 (at 0))) rows strings bits work ≡ readOf text rows strings bits work
   unfolding readOf short
   short-rows h = rw (lt-ltb (length rows) 26307 h)
@@ -174,9 +184,8 @@ module _ (text rows strings bits work : List ℕ) where
         unfolding readOf short
         short-work h = rw (le-ltb (length rows) 26307 a, le-ltb (length strings) 16384 b, le-ltb (length bits) 393728 c, lt-ltb (length work) 132608 h)
 
-        pub all-long : 132608 ≤ length work → {r : Read} {rows′ strings′ bits′ work′ : List ℕ} → made r rows′ strings′ bits′ work′ ≡ filled (reading text)
-            → made r (rows′ ++ drop 26307 rows) (strings′ ++ drop 16384 strings) (bits′ ++ drop 393728 bits) (work′ ++ drop 132608 work) ≡ readOf text rows strings bits work
+        pub all-long : 132608 ≤ length work → {o : Outcome} → o ≡ behindRows rows (behindStrings strings (behindBits bits (behindWork work (filled (reading text))))) → o ≡ readOf text rows strings bits work
         unfolding readOf short
         all-long h e =
             rw (le-ltb (length rows) 26307 a, le-ltb (length strings) 16384 b, le-ltb (length bits) 393728 c, le-ltb (length work) 132608 h)
-            (ap (behind rows strings bits work) e ∙ filled-behind rows strings bits work (reading text))
+            (e ∙ filled-behind rows strings bits work (reading text))

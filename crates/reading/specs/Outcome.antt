@@ -1,9 +1,9 @@
 -- All that a caller sees after a read: the answer, and every word and byte lent.
 use Prim.Native.Nat.{ℕ}
 use mathlib.Core.Bool.{_||_}
-use mathlib.Core.List.{List}
+use mathlib.Core.List.{List, _++_}
 use lib.Dec.{ltb}
-use lib.ListN.{length}
+use lib.ListN.{length, drop}
 use Rattle.ground.specs.Choice.{pick}
 use Rattle.ground.specs.Refusals.{at, refusal}
 use Rattle.ground.specs.Regions.{zeros, over}
@@ -42,6 +42,19 @@ left rows strings bits work (refused g) =
 abbrev pub filled : Reading → Outcome
 filled (says N) = made read.Accepted (rowsOf (layout N)) (layout N .strings) (bitsOf (layout N)) (zeros workLength)
 filled (refused g) = made (read.Refused g) (zeros rowsLength) (zeros stringsLength) (zeros bitsLength) (zeros workLength)
+
+-- of longer slices only the fixed length counts: what stood behind it stands there still
+abbrev pub behindRows : List ℕ → Outcome → Outcome
+behindRows old o = made (o .answer) (o .rows ++ drop rowsLength old) (o .strings) (o .bits) (o .work)
+
+abbrev pub behindStrings : List ℕ → Outcome → Outcome
+behindStrings old o = made (o .answer) (o .rows) (o .strings ++ drop stringsLength old) (o .bits) (o .work)
+
+abbrev pub behindBits : List ℕ → Outcome → Outcome
+behindBits old o = made (o .answer) (o .rows) (o .strings) (o .bits ++ drop bitsLength old) (o .work)
+
+abbrev pub behindWork : List ℕ → Outcome → Outcome
+behindWork old o = made (o .answer) (o .rows) (o .strings) (o .bits) (o .work ++ drop workLength old)
 
 -- THE OUTCOME OF READING
 unfoldable pub readOf : List ℕ → List ℕ → List ℕ → List ℕ → List ℕ → Outcome

@@ -1,0 +1,48 @@
+// The end of a reading whose declarations are all noted: 14, or the tables.
+use crate::Read;
+use crate::finish::finish;
+use ground::Refusal;
+use noting::Tally;
+use resolving::Lost;
+use resolving::first_lost;
+ghost use mathlib.Core.Path.{_≡_};
+ghost use Prim.Native.Nat.{_≤_};
+ghost use lib.ListN.{length};
+ghost use Rattle.ground.specs.Regions.{zeros};
+ghost use Rattle.lexis.specs.Bytes.{table};
+ghost use Rattle.reading.specs.Answers.{FindsLost, SomeWhole, Ends};
+
+// The first piece of the text that does not resolve.
+fn lost_piece(t: &[u8; 256], text: &[u8], rows: &[u32], work: &[u32], n: Tally) -> Lost
+    requires { ⌜ (now t ≡ table) × (length (now text) ≤ 65536) × (length (now rows) ≡ 26307) × (length (now work) ≡ 132608) × (n .cells ≤ 512) ⌝ }
+    ensures { λ r. ⌜ FindsLost (now (text .entry)) n (now (rows .entry)) (now (work .entry)) r ⌝ }
+{
+    first_lost(
+        t,
+        text,
+        &work[131072..132608],
+        n.cells * 3,
+        &work[0..65536],
+        &rows[9411..14019],
+    )
+}
+
+pub(crate) fn end_reading(
+    t: &[u8; 256],
+    text: &[u8],
+    rows: &mut [u32],
+    strings: &mut [u8],
+    work: &[u32],
+    n: Tally,
+) -> Read
+    requires { ⌜ (now t ≡ table) × (length (now text) ≤ 65536) × SomeWhole (now text) n (now rows) (now work) × (now strings ≡ zeros 16384) ⌝ }
+    ensures { λ r. ⌜ Ends (now (text .entry)) n (now (rows .entry)) (now (work .entry)) r (now (rows .exit)) (now (strings .exit)) ⌝ }
+{
+    match lost_piece(t, text, rows, work, n) {
+        Lost::At(place) => Read::Refused(Refusal { number: 14, place }),
+        Lost::Nowhere => {
+            finish(text, rows, strings, work, n);
+            Read::Accepted
+        }
+    }
+}
