@@ -1,13 +1,18 @@
-//! The text layer in plain Rust, to compare the proved library with.
+//! The text layer and the reader in plain Rust, to compare the proved library with.
 //!
-//! It is written from documents 01 (sections Text and Refusal numbers) and 001 (lexical structure) and from `docs/DECISIONS.md`, not
-//! from the proved reader (the crates `lexis` and `form`) or its definitions, so that a misreading of the documents would have to be
-//! made twice to stay unseen. The decided points are common to both. It uses no `unsafe`.
+//! It is written from documents 01 and 001, `docs/DECISIONS.md` and `docs/LAYOUT.md`, not from the proved crates or their definitions,
+//! so that a misreading of the documents would have to be made twice to stay unseen. The decided points are common to both. It uses no
+//! `unsafe`.
+//!
+//! Here are the whole text (refusals 2 to 4) and its tokens (5 and 6); `reading` is the reader above them (1 to 14).
 
 #![forbid(unsafe_code)]
 
 #[cfg(test)]
 mod examples;
+pub mod reading;
+
+pub use reading::{read, read_into, Tables, Work};
 
 /// The longest text, in bytes.
 pub const LONGEST: usize = 65_536;
