@@ -10,6 +10,7 @@
 
 #[cfg(test)]
 mod examples;
+pub mod lines;
 pub mod reading;
 
 pub use reading::{read, read_into, Tables, Work};
