@@ -2,9 +2,15 @@
 
 #![forbid(unsafe_code)]
 
+mod any;
+mod full;
 mod netlist;
 
+pub use any::{any_netlist, changed};
+pub use full::full_netlist;
 pub use netlist::netlist;
+
+use netlist::fill_with_comments;
 
 /// Random numbers by xorshift; the same seed gives the same numbers.
 #[derive(Clone, Debug)]

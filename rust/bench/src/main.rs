@@ -2,13 +2,26 @@
 
 #![forbid(unsafe_code)]
 
+#[cfg(feature = "read")]
+mod read;
+
 use std::time::{Duration, Instant};
 
-/// The library may take this many times the plain one's time.
-const LIMIT: f64 = 1.3;
-
 /// What is timed: a function from a text to a number that tells its answer.
-type Work = fn(&[u8]) -> u64;
+pub type Work = Box<dyn FnMut(&[u8]) -> u64>;
+
+/// Makes a text of so many bytes from a seed.
+type Maker = fn(usize, u64) -> Vec<u8>;
+
+/// A line of the table: the same work of the library and of the plain one.
+pub struct Line {
+    name: &'static str,
+    library: Work,
+    plain: Work,
+    /// The library may take this many times the plain one's time.
+    limit: Option<f64>,
+    text: Maker,
+}
 
 fn library_scan(text: &[u8]) -> u64 {
     grackleivy::whole(text).map_or_else(|refusal| refusal.place, |()| u64::MAX)
@@ -30,9 +43,36 @@ fn reference_tokens(text: &[u8]) -> u64 {
     reference::tokens(text).unwrap_or_else(|refusal| refusal.place)
 }
 
+fn lines() -> Vec<Line> {
+    let line = |name, library: fn(&[u8]) -> u64, plain: fn(&[u8]) -> u64, limit| Line {
+        name,
+        library: Box::new(library),
+        plain: Box::new(plain),
+        limit,
+        text: bench::netlist,
+    };
+    let mut lines = vec![
+        line("scan", library_scan, reference_scan, Some(1.3)),
+        line("scan, one byte a step", library_scan, reference_scan_by_bytes, None),
+        line("scan + tokens", library_tokens, reference_tokens, Some(1.3)),
+    ];
+    lines.extend(reading());
+    lines
+}
+
+#[cfg(feature = "read")]
+fn reading() -> Option<Line> {
+    Some(read::line())
+}
+
+#[cfg(not(feature = "read"))]
+fn reading() -> Option<Line> {
+    None
+}
+
 /// The time of `calls` calls. Called through a pointer that is unknown here, no call can be left out.
 #[inline(never)]
-fn timed(work: Work, text: &[u8], calls: u32) -> Duration {
+fn timed(work: &mut Work, text: &[u8], calls: u32) -> Duration {
     let start = Instant::now();
     let mut sum = 0u64;
     for _ in 0..calls {
@@ -44,29 +84,32 @@ fn timed(work: Work, text: &[u8], calls: u32) -> Duration {
 }
 
 /// The best time of one call of each, in microseconds, taken in turns.
-fn best(works: [Work; 2], text: &[u8], rounds: u32) -> [f64; 2] {
+fn best(works: [&mut Work; 2], text: &[u8], rounds: u32) -> [f64; 2] {
     let calls = ((256 << 10) / text.len()).max(1) as u32;
     let mut least = [Duration::MAX; 2];
+    let [library, plain] = works;
     for _ in 0..rounds {
-        for (work, least) in works.iter().zip(&mut least) {
-            *least = timed(*work, text, calls).min(*least);
-        }
+        least[0] = timed(library, text, calls).min(least[0]);
+        least[1] = timed(plain, text, calls).min(least[1]);
     }
     least.map(|time| time.as_secs_f64() * 1e6 / f64::from(calls))
 }
 
 /// For counting instructions: calls one function so many times on one text, and nothing else.
 fn only(name: &str, kib: usize, calls: u32) {
-    let work: Work = match name {
-        "library-scan" => library_scan,
-        "library-tokens" => library_tokens,
-        "reference-scan" => reference_scan,
-        "reference-scan-by-bytes" => reference_scan_by_bytes,
-        "reference-tokens" => reference_tokens,
+    let (mut work, text): (Work, Maker) = match name {
+        "library-scan" => (Box::new(library_scan), bench::netlist),
+        "library-tokens" => (Box::new(library_tokens), bench::netlist),
+        "reference-scan" => (Box::new(reference_scan), bench::netlist),
+        "reference-scan-by-bytes" => (Box::new(reference_scan_by_bytes), bench::netlist),
+        "reference-tokens" => (Box::new(reference_tokens), bench::netlist),
+        #[cfg(feature = "read")]
+        "library-read" => (read::library(), bench::full_netlist),
+        #[cfg(feature = "read")]
+        "reference-read" => (read::reference(), bench::full_netlist),
         _ => panic!("no function has the name {name}"),
     };
-    let text = bench::netlist(kib << 10, kib as u64);
-    timed(work, &text, calls);
+    timed(&mut work, &text(kib << 10, kib as u64), calls);
 }
 
 fn main() {
@@ -79,28 +122,24 @@ fn main() {
 
     println!("best of {rounds} rounds, library and plain Rust in turns; microseconds a call");
     println!();
-    println!("{:>6}  {:<22} {:>10} {:>10} {:>7}  limit {LIMIT}", "KiB", "work", "library", "reference", "ratio");
+    println!("{:>6}  {:<22} {:>10} {:>10} {:>7} {:>6}", "KiB", "work", "library", "reference", "ratio", "limit");
     let mut over = 0;
     for kib in [4, 16, 64] {
-        let text = bench::netlist(kib << 10, kib as u64);
-        assert_eq!(text.len(), kib << 10);
-        let rows: [(&str, Work, Work, bool); 3] = [
-            ("scan", library_scan, reference_scan, true),
-            ("scan, one byte a step", library_scan, reference_scan_by_bytes, false),
-            ("scan + tokens", library_tokens, reference_tokens, true),
-        ];
-        for (name, library, plain, limited) in rows {
-            assert_eq!(library(&text), plain(&text), "the answers differ: {name}, {kib} KiB");
-            assert!(library(&text) > 400, "the text is taken");
-            let [a, b] = best([library, plain], &text, rounds);
+        for mut line in lines() {
+            let (name, text) = (line.name, (line.text)(kib << 10, kib as u64));
+            assert_eq!(text.len(), kib << 10);
+            let answer = (line.library)(&text);
+            assert_eq!(answer, (line.plain)(&text), "the answers differ: {name}, {kib} KiB");
+            assert!(answer > 400, "the text is taken");
+            let [a, b] = best([&mut line.library, &mut line.plain], &text, rounds);
             let ratio = a / b;
-            let verdict = match (limited, ratio > LIMIT) {
-                (false, _) => "no limit",
-                (true, false) => "within",
-                (true, true) => "OVER",
+            let verdict = match line.limit {
+                None => "     -  no limit".to_string(),
+                Some(limit) if ratio <= limit => format!("{limit:>6}  within"),
+                Some(limit) => format!("{limit:>6}  OVER"),
             };
-            over += u32::from(verdict == "OVER");
-            println!("{kib:>6}  {name:<22} {a:>10.2} {b:>10.2} {ratio:>7.2}  {verdict}");
+            over += u32::from(verdict.ends_with("OVER"));
+            println!("{kib:>6}  {name:<22} {a:>10.2} {b:>10.2} {ratio:>7.2} {verdict}");
         }
     }
     println!();

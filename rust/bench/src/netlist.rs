@@ -168,6 +168,11 @@ pub fn netlist(size: usize, seed: u64) -> Vec<u8> {
     }
     let mut text = writer.text.into_bytes();
     text.truncate(kept);
+    fill_with_comments(text, size)
+}
+
+/// The text made `size` bytes long by comments.
+pub(crate) fn fill_with_comments(mut text: Vec<u8>, size: usize) -> Vec<u8> {
     while text.len() + 80 < size {
         text.extend_from_slice(b"; end of the listing, kept blank up to the next sheet\n");
     }

@@ -89,7 +89,7 @@ impl Reading<'_> {
         self.delimiter(b'(')?;
         let (line, column) = (self.decimal_inside()?, self.decimal_inside()?);
         let token = self.inside()?;
-        if token.kind == Kind::Delimiter(b')') {
+        if matches!(token.kind, Kind::Delimiter(b')')) {
             Ok((line, column))
         } else {
             Err(refusal(7, token.place))

@@ -261,18 +261,24 @@ impl<'a> Reading<'a> {
     }
 
     /// The next token; the text's end is refused 7 at its length.
+    #[inline]
     fn token(&mut self) -> Result<Token, Refusal> {
         match self.tokens.next_token()? {
             Some(token) => Ok(token),
-            None => Err(refusal(7, self.tokens.text.len())),
+            None => Err(self.early_end()),
         }
     }
 
+    fn early_end(&self) -> Refusal {
+        refusal(7, self.tokens.text.len())
+    }
+
     /// The next token between brackets, where a line end is white space.
+    #[inline]
     fn inside(&mut self) -> Result<Token, Refusal> {
         loop {
             let token = self.token()?;
-            if token.kind != Kind::LineEnd {
+            if !matches!(token.kind, Kind::LineEnd) {
                 return Ok(token);
             }
         }
@@ -280,7 +286,7 @@ impl<'a> Reading<'a> {
 
     fn delimiter(&mut self, byte: u8) -> Result<(), Refusal> {
         let token = self.token()?;
-        if token.kind == Kind::Delimiter(byte) {
+        if matches!(token.kind, Kind::Delimiter(found) if found == byte) {
             Ok(())
         } else {
             Err(refusal(7, token.place))
@@ -289,7 +295,7 @@ impl<'a> Reading<'a> {
 
     fn line_end(&mut self) -> Result<(), Refusal> {
         let token = self.token()?;
-        if token.kind == Kind::LineEnd {
+        if matches!(token.kind, Kind::LineEnd) {
             Ok(())
         } else {
             Err(refusal(7, token.place))

@@ -35,21 +35,28 @@ impl Reading<'_> {
     /// An operand: one part, or parts in `[ ]`.
     pub(super) fn operand(&mut self) -> Result<Operand, Refusal> {
         let mut operand = Operand::default();
-        let token = self.token()?;
-        if token.kind != Kind::Delimiter(b'[') {
-            self.part(token, &mut operand)?;
-            return Ok(operand);
+        match self.tokens.next_token()? {
+            Some(Token { kind: Kind::Delimiter(b'['), .. }) => self.parts(&mut operand)?,
+            Some(token) => self.part(&token, &mut operand)?,
+            None => return Err(self.early_end()),
         }
+        Ok(operand)
+    }
+
+    /// Parts up to the closing bracket; a line end between them is white space.
+    fn parts(&mut self, operand: &mut Operand) -> Result<(), Refusal> {
         loop {
-            let token = self.inside()?;
-            if token.kind == Kind::Delimiter(b']') {
-                return Ok(operand);
+            match self.tokens.next_token()? {
+                Some(Token { kind: Kind::LineEnd, .. }) => {}
+                Some(Token { kind: Kind::Delimiter(b']'), .. }) => return Ok(()),
+                Some(token) => self.part(&token, operand)?,
+                None => return Err(self.early_end()),
             }
-            self.part(token, &mut operand)?;
         }
     }
 
-    fn part(&mut self, token: Token, operand: &mut Operand) -> Result<(), Refusal> {
+    #[inline]
+    fn part(&mut self, token: &Token, operand: &mut Operand) -> Result<(), Refusal> {
         match token.kind {
             Kind::Constant { trits, times } => {
                 let times = times.unwrap_or(1);
