@@ -7,7 +7,7 @@ use native.Mathlib.Omega.{arith}
 use lib.Dec.{T, eqb, ltb, leb, eqb→eq, leb→le}
 use lib.ListN.{length, getD}
 use lib.Seq.{sets}
-use borrow.Author.Tests.{lt-ltb, le-ltb, eq-eqb, ne-eqb, ltb-true, ltb-false}
+use borrow.Author.Tests.{lt-ltb, le-ltb, eq-eqb, ne-eqb, ltb-true, ltb-false, eqb-true, eqb-false}
 use Rattle.ground.specs.Choice.{pick}
 use Rattle.ground.specs.Regions.{zeros}
 use Rattle.ground.proofs.Bools.{bool-cases, never-both, and-true, and-first, and-second}
@@ -16,7 +16,8 @@ use Rattle.ground.proofs.Rest.{rest-end, past-zero}
 use Rattle.ground.proofs.Tables.{at}
 use Rattle.lexis.specs.Bytes.{classFrom, classOf, isHex, isRaw, hexOf}
 use Rattle.lexis.specs.Pieces.{Str, whole, broken, prefixed, stringFrom, stringAt, bytesIn, decoded, sized}
-use Rattle.lexis.specs.Decoding.{Decoding, decodedInto}
+use Rattle.lexis.specs.Decoding.{Decoding, meantAt, decodedInto}
+use Rattle.lexis.specs.declared.decode.Meant.{Meant}
 use Rattle.lexis.specs.declared.pieces.Quoted.the-variants.{Closed, Malformed}
 use Rattle.lexis.proofs.Laws.{string-close, string-escape, string-raw}
 
@@ -61,11 +62,20 @@ module _ (s : List ℕ) (i : ℕ) (h : 0 < length (decoded s i)) where
   unclosed : eqb (getD s i 0) 34 ≡ false
   unclosed = bool-cases (eqb (getD s i 0) 34) (λ q. let z : 0 < 0 = rw (string-close s i meant-inside q) at h in absurd (omega arith)) (λ q. q)
 
-  -- a byte that begins no escape means itself
-  pub raw-meant : (getD s i 0 ≡ 92 → ⊥) → decoded s i ≡ getD s i 0 ∷ decoded s (i + 1)
-  raw-meant f = bool-cases (isRaw (getD s i 0))
-      (λ r. let e = string-raw s i meant-inside true unclosed (ne-eqb _ 92 f) r in ap bytesIn e ∙ prefixed-bytes (getD s i 0) (stringAt s (i + 1)) (rw e at h))
-      (λ r. let z : 0 < 0 = rw (string-raw s i meant-inside false unclosed (ne-eqb _ 92 f) r) at h in absurd (omega arith))
+  module _ (f : getD s i 0 ≡ 92 → ⊥) where
+    raw : isRaw (getD s i 0) ≡ true
+    raw = bool-cases (isRaw (getD s i 0)) (λ r. r)
+        (λ r. let z : 0 < 0 = rw (string-raw s i meant-inside false unclosed (ne-eqb _ 92 f) r) at h in absurd (omega arith))
+
+    -- a byte that begins no escape means itself
+    raw-meant : decoded s i ≡ getD s i 0 ∷ decoded s (i + 1)
+    raw-meant =
+        let e = string-raw s i meant-inside true unclosed (ne-eqb _ 92 f) raw in
+        ap bytesIn e ∙ prefixed-bytes (getD s i 0) (stringAt s (i + 1)) (rw e at h)
+
+    pub raw-next : record { byte = getD s i 0; end = i + 1 } ≡ meantAt s i
+    unfolding meantAt
+    raw-next = rw (raw-meant, ne-eqb _ 92 f, raw)
 
   module _ (f : getD s i 0 ≡ 92) where
     digits : isHex (getD s (i + 1) 0) && isHex (getD s (i + 2) 0) ≡ true
@@ -83,10 +93,20 @@ module _ (s : List ℕ) (i : ℕ) (h : 0 < length (decoded s i)) where
     escape-inside = hex-inside s (i + 2) escape-low
 
     -- and it means the byte that they make
-    pub escape-meant : decoded s i ≡ (hexOf (getD s (i + 1) 0) * 16 + hexOf (getD s (i + 2) 0)) ∷ decoded s (i + 3)
+    escape-meant : decoded s i ≡ (hexOf (getD s (i + 1) 0) * 16 + hexOf (getD s (i + 2) 0)) ∷ decoded s (i + 3)
     escape-meant =
         let e = string-escape s i meant-inside true unclosed (eq-eqb _ 92 f) digits in
         ap bytesIn e ∙ prefixed-bytes _ (stringAt s (i + 3)) (rw e at h)
+
+    pub escape-next : record { byte = hexOf (getD s (i + 1) 0) * 16 + hexOf (getD s (i + 2) 0); end = i + 3 } ≡ meantAt s i
+    unfolding meantAt
+    escape-next = rw (escape-meant, eq-eqb _ 92 f, digits)
+
+  -- what a string means goes on behind its next byte
+  pub next-meant : (m : Meant) → m ≡ meantAt s i → decoded s i ≡ m .byte ∷ decoded s (m .end)
+  next-meant m e = bool-cases (eqb (getD s i 0) 92)
+      (λ q. rw (e, ← escape-next (eqb-true _ 92 q)) (escape-meant (eqb-true _ 92 q)))
+      (λ q. rw (e, ← raw-next (eqb-false _ 92 q)) (raw-meant (eqb-false _ 92 q)))
 
 -- how many bytes a string means is its size, and none where it is malformed
 pub closed-size : (x : Str) (n e : ℕ) → Closed n e ≡ sized x → n ≡ length (bytesIn x)
@@ -102,6 +122,12 @@ pub sets-none : (l : List ℕ) (k : ℕ) (xs : List ℕ) → length xs ≡ 0 →
 sets-none l k [] h = refl
 sets-none l k (x ∷ xs) h = absurd (omega arith)
 
--- the contract of `decode` allows one outcome
+-- each contract of this module allows one outcome: of `next_byte`, of `fill` and of `decode`
+pub next-byte-one : (text : List ℕ) (k : ℕ) (o p : Meant) → o ≡ meantAt text k → p ≡ meantAt text k → o ≡ p
+next-byte-one text = any-two (meantAt text)
+
+pub fill-one : (text : List ℕ) (from : ℕ) (room o p : List ℕ) → o ≡ sets room 0 (decoded text from) → p ≡ sets room 0 (decoded text from) → o ≡ p
+fill-one text from = any-two (λ room. sets room 0 (decoded text from))
+
 pub decode-one : (text : List ℕ) (from : ℕ) (room : List ℕ) (o p : Decoding) → o ≡ decodedInto text from room → p ≡ decodedInto text from room → o ≡ p
 decode-one text from = any-two (decodedInto text from)

@@ -1,11 +1,18 @@
--- What the caller of `decode` sees: how many bytes the string means, and the lent room with these bytes written from its start on.
--- A byte past the end of the room is dropped, so that the room may be short, and the size says how long it would have to be.
-use Prim.Native.Nat.{ℕ}
+-- What the callers of `next_byte` and `decode` see.
+use Prim.Native.Nat.{ℕ, _+_}
 use mathlib.Core.List.{List}
-use lib.ListN.{length}
+use lib.ListN.{length, getD}
 use lib.Seq.{sets}
-use Rattle.lexis.specs.Pieces.{decoded}
+use Rattle.lexis.specs.Pieces.{decoded, takenAt}
+use Rattle.lexis.specs.declared.decode.Meant.{Meant}
 
+-- Document 01, Text: "`\` and two of `0-9a-f` is that byte". The first byte that the string from the place k on means, and the place
+-- past what is written for it.
+unfoldable pub meantAt : List ℕ → ℕ → Meant
+meantAt text k = record { byte = getD (decoded text k) 0 0; end = k + takenAt text k }
+
+-- How many bytes a string means, and the lent room with these bytes written from its start on. A byte past the end of the room is
+-- dropped, so that the room may be short, and the size says how long it would have to be.
 pub record Decoding : Type 0 where
   pub size : ℕ
   pub room : List ℕ

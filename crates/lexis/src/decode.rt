@@ -1,13 +1,12 @@
 // The bytes that a string means, written into a lent room.
 ghost use mathlib.Core.Path.{_≡_};
 ghost use mathlib.Core.Bool.{true};
-ghost use mathlib.Core.List.{_∷_};
 ghost use Prim.Native.Nat.{_<_};
 ghost use lib.ListN.{length, set};
 ghost use lib.Seq.{sets};
 ghost use Rattle.lexis.specs.Bytes.{table, isHex, hexOf};
 ghost use Rattle.lexis.specs.Pieces.{decoded};
-ghost use Rattle.lexis.specs.Decoding.{seen, decodedInto};
+ghost use Rattle.lexis.specs.Decoding.{meantAt, seen, decodedInto};
 use super::pieces::Quoted;
 use super::pieces::quoted_at;
 
@@ -27,7 +26,7 @@ fn hex_value(b: u8) -> u8
 // The next byte of a string that means one more.
 pub fn next_byte(text: &[u8], at: usize) -> Meant
     requires { ⌜ 0 < length (decoded (now text) at) ⌝ }
-    ensures { λ r. ⌜ decoded (now (text .entry)) at ≡ r .byte ∷ decoded (now (text .entry)) (r .end) ⌝ }
+    ensures { λ r. ⌜ r ≡ meantAt (now (text .entry)) at ⌝ }
 {
     let b = text[at];
     if b != 92 {

@@ -5,6 +5,7 @@ use native.Mathlib.Omega.{arith}
 use lib.ListN.{length}
 use Rattle.ground.specs.Text.{same}
 use Rattle.lexis.specs.Pieces.{decoded}
+use Rattle.lexis.proofs.Strings.{next-meant}
 use Rattle.asking.proofs.NameLaws.{same-on, same-off, same-none, tail-length}
 use borrow.Author.Needs.{needs}
 use Rattle.asking.proofs.names.same_string.Statement.{statement}
@@ -26,7 +27,10 @@ next-byte-requires-2 : tie.Need-next-byte-requires-2 Inv-loop μ-loop
 next-byte-requires-2 c κs = let p = c .before .before in omega (arith, p .loop .inv .1)
 
 returns : tie.Need-returns Inv-loop μ-loop
-returns c = let p = c .before .before .before .before .before .before in let q = c .before .before .before in same-off _ _ _ _ _ _ (q .before .next-byte .ensures) (q .next-byte2 .ensures) (c .if1 .taken) ∙ p .loop .inv .2
+returns c = let p = c .before .before .before .before .before .before in let q = c .before .before .before in
+    let x = next-meant _ (p .loop .i) (omega (arith, p .loop .inv .0)) _ (q .before .next-byte .ensures) in
+    let y = next-meant _ (p .loop .j) (omega (arith, p .loop .inv .1)) _ (q .next-byte2 .ensures) in
+    same-off _ _ _ _ _ _ x y (c .if1 .taken) ∙ p .loop .inv .2
 
 sub-left : tie.Need-sub-left Inv-loop μ-loop
 sub-left c = search needs
@@ -36,7 +40,9 @@ loop-less c = search needs
 
 loop-again : tie.Need-loop-again Inv-loop μ-loop
 loop-again c = let p = c .before .before .before .before .before .before in let q = c .before .before .before in
-    (tail-length (p .loop .left) _ _ _ (q .before .next-byte .ensures) (p .loop .inv .0), tail-length (p .loop .left) _ _ _ (q .next-byte2 .ensures) (p .loop .inv .1), same-on _ _ _ _ _ _ (q .before .next-byte .ensures) (q .next-byte2 .ensures) (c .if1 .left) ∙ p .loop .inv .2)
+    let x = next-meant _ (p .loop .i) (omega (arith, p .loop .inv .0)) _ (q .before .next-byte .ensures) in
+    let y = next-meant _ (p .loop .j) (omega (arith, p .loop .inv .1)) _ (q .next-byte2 .ensures) in
+    (tail-length (p .loop .left) _ _ _ x (p .loop .inv .0), tail-length (p .loop .left) _ _ _ y (p .loop .inv .1), same-on _ _ _ _ _ _ x y (c .if1 .left) ∙ p .loop .inv .2)
 
 returns-2 : tie.Need-returns-2 Inv-loop μ-loop
 returns-2 c = let p = c .before in same-none _ _ (omega (arith, p .loop .inv .0)) (omega (arith, p .loop .inv .1)) ∙ p .loop .inv .2

@@ -7,7 +7,7 @@ use lib.Seq.{sets}
 use lib.ListN.{length, length-set}
 use borrow.Author.Needs.{needs}
 use Rattle.lexis.specs.Pieces.{decoded}
-use Rattle.lexis.proofs.Strings.{sets-none}
+use Rattle.lexis.proofs.Strings.{next-meant, sets-none}
 use Rattle.lexis.proofs.decode.fill.Statement.{statement}
 use Rattle.lexis.proofs.decode.fill.Tie as tie
 
@@ -34,7 +34,8 @@ loop-less c = search needs
 
 loop-again : tie.Need-loop-again Inv-loop μ-loop
 loop-again c = let p = c .before .before .before .before .before .before in
-    let e = c .before .before .before .before .next-byte .ensures in
+    let q = c .before .before .before .before in
+    let e = next-meant _ (p .loop .i) (omega (arith, p .loop .inv .1)) _ (q .next-byte .ensures) in
     (rw (c .before .before .put .ensures) (simp length-set (p .loop .inv .0)), omega (arith, rw e at (p .loop .inv .1)), rw (c .before .before .put .ensures, add-one) (rw e at (p .loop .inv .2)))
 
 same-length : tie.Need-same-length Inv-loop μ-loop

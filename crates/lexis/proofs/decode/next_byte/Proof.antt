@@ -1,6 +1,6 @@
 use native.Mathlib.Omega.{arith}
 use borrow.Author.Needs.{needs}
-use Rattle.lexis.proofs.Strings.{meant-inside, raw-meant, escape-high, escape-low, escape-inside, escape-meant}
+use Rattle.lexis.proofs.Strings.{meant-inside, raw-next, escape-high, escape-low, escape-inside, escape-next}
 use Rattle.lexis.proofs.decode.next_byte.Statement.{statement}
 use Rattle.lexis.proofs.decode.next_byte.Tie as tie
 
@@ -11,7 +11,7 @@ add-t9 : tie.Need-add-t9
 add-t9 c = let a = c .before .before .before in omega (arith, meant-inside (a .args .text .now) (a .args .at) (a .pre))
 
 returns : tie.Need-returns
-returns c = let a = c .before .before .before in raw-meant (a .args .text .now) (a .args .at) (a .pre) (c .if1 .taken)
+returns c = let a = c .before .before .before in raw-next (a .args .text .now) (a .args .at) (a .pre) (c .if1 .taken)
 
 add-hex-value : tie.Need-add-hex-value
 add-hex-value c = let a = c .before .before .before in omega (arith, meant-inside (a .args .text .now) (a .args .at) (a .pre))
@@ -41,7 +41,7 @@ add-t10 : tie.Need-add-t10
 add-t10 c = let a = c .before .before .before .before .before .before .before in omega (arith, escape-inside (a .args .text .now) (a .args .at) (a .pre) (c .before .before .before .before .if1 .left))
 
 returns-2 : tie.Need-returns-2
-returns-2 c = let a = c .before .before .before .before .before .before .before in rw (c .before .before .hex-value .ensures .0, c .hex-value2 .ensures .0) (escape-meant (a .args .text .now) (a .args .at) (a .pre) (c .before .before .before .before .if1 .left))
+returns-2 c = let a = c .before .before .before .before .before .before .before in rw (c .before .before .hex-value .ensures .0, c .hex-value2 .ensures .0) (escape-next (a .args .text .now) (a .args .at) (a .pre) (c .before .before .before .before .if1 .left))
 
 pub next-byte-spec : {M : Type 1} → statement M
 next-byte-spec =
