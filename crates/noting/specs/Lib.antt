@@ -1,5 +1,3 @@
 pub mod Noted
 pub mod Formed
-pub mod CellAdding
 pub mod Rulings
-pub mod MetaRows

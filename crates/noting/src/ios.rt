@@ -2,10 +2,10 @@
 use crate::Noting;
 use crate::Ruling;
 use crate::Tally;
+use crate::refuse;
 use asking::names::io_taken;
 use form::Str;
 use ground::Place;
-use ground::Refusal;
 use kinds::wide;
 ghost use mathlib.Core.Path.{_≡_};
 ghost use mathlib.Core.Bool.{not};
@@ -13,7 +13,6 @@ ghost use mathlib.Core.List.{List, [], _∷_};
 ghost use Prim.Native.Nat.{ℕ, _+_, _*_, _<_, _≤_};
 ghost use lib.ListN.{length};
 ghost use lib.Seq.{sets};
-ghost use Rattle.ground.specs.Refusals.{refusal};
 ghost use Rattle.netlist.specs.Netlist.{Io, Netlist};
 ghost use Rattle.netlist.specs.Rules.{roomy};
 ghost use Rattle.saying.specs.Rules.{Sofar};
@@ -21,13 +20,6 @@ ghost use Rattle.asking.specs.Namesakes.{IosNoted};
 ghost use Rattle.noting.specs.Noted.{IosHeld, Tallied, Noted, NotedSome, After};
 ghost use Rattle.noting.specs.Formed.{StrIn};
 ghost use Rattle.noting.specs.Rulings.{rulingOf, ioMore, ioIn, ioLimits, ioRules, ioDeclared, ioTally, IoRoom, SomeNoted};
-ghost use Rattle.noting.specs.declared.Ruling.the-variants.{Refused};
-
-pub(crate) fn refuse(number: u8, place: Place) -> Ruling
-    ensures { λ r. ⌜ r ≡ Refused (refusal number place) ⌝ }
-{
-    Ruling::Refused(Refusal { number, place })
-}
 
 // Whether one I/O row more, with a name of `size` bytes, passes a limit of Room.
 fn io_cramped(n: Tally, size: usize) -> bool

@@ -1,10 +1,12 @@
-// Noting: one declaration of a text, after its form: rules 9 to 13 are asked by number, and what the declaration says is noted in
-// the lent tables. It promises the refusal that the rules give, or tables that note one declaration more. Asking and laying stand
-// below it, reading above.
-pub mod cells;
+// Noting: what stands in the lent tables and the work space while a text is read, how much it is, and what a declaration of good form
+// brings; and an I/O declaration, for which rules 9 to 13 are asked by number and one more is noted. It promises the refusal that the
+// rules give, or tables that note one declaration more. Asking and laying stand below it, metas, wiring and reading above.
 pub mod ios;
-pub mod metas;
 
+ghost use mathlib.Core.Path.{_≡_};
+ghost use Rattle.ground.specs.Refusals.{refusal};
+ghost use Rattle.noting.specs.declared.Ruling.the-variants.{Refused};
+use ground::Place;
 use ground::Refusal;
 
 // How much the text brought so far: rows, members of sets, trits of attributes, runs, known trits in them, declared cell bits,
@@ -32,4 +34,11 @@ pub enum Noting {
 pub enum Ruling {
     Passed,
     Refused(Refusal),
+}
+
+// The rule of the number, broken at the place.
+pub fn refuse(number: u8, place: Place) -> Ruling
+    ensures { λ r. ⌜ r ≡ Refused (refusal number place) ⌝ }
+{
+    Ruling::Refused(Refusal { number, place })
 }

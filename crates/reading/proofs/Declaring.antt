@@ -21,7 +21,7 @@ use Rattle.form.specs.declared.Wiring.{Wiring}
 use Rattle.form.specs.declared.Str.{Str}
 use Rattle.ground.specs.declared.Place.{Place}
 use Rattle.noting.specs.Rulings.{ioDeclared}
-use Rattle.noting.specs.MetaRows.{isMetadata}
+use Rattle.metas.specs.MetaRows.{isMetadata}
 use Rattle.reading.specs.declared.notes.Sort.{Sort}
 use Rattle.reading.specs.declared.notes.Sort.the-variants as sort
 use Rattle.form.specs.declared.Form.{Form}

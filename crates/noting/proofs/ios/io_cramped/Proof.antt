@@ -6,22 +6,16 @@ use native.Mathlib.Omega.{arith}
 use borrow.Author.Needs.{needs}
 use Rattle.noting.proofs.ios.io_cramped.Statement.{statement}
 use Rattle.noting.proofs.ios.io_cramped.Tie as tie
-use Rattle.noting.proofs.ios.io_cramped.Reads as reads
-use Rattle.noting.proofs.ios.io_cramped.Lts as lts
 
--- src/ios.rt:38:9
 returns : tie.Need-returns
 returns c = let a = c .before .before .args in λ N i t e. rw (io-many N i (a .n) t (c .if1 .taken))
 
--- src/ios.rt:41:9
 returns-2 : tie.Need-returns-2
 returns-2 c = let a = c .before .before .before .args in λ N i t e. let h : 255 < length (i .name) = omega (arith, c .if2 .taken) in rw (io-long N i (a .n) t h)
 
--- src/ios.rt:43:13
 add-result : tie.Need-add-result
 add-result c = search needs
 
--- src/ios.rt:33:1
 returns-3 : tie.Need-returns-3
 returns-3 c = let a = c .before .before .before .before .args in λ N i t e. let h : length (i .name) ≤ 255 = omega (arith, c .before .if2 .left) in rw e (io-last-limit N i (a .n) t (omega (arith, c .before .before .if1 .left)) h)
 

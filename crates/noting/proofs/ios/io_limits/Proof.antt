@@ -4,45 +4,31 @@ use mathlib.Core.Path.{_≡_, sym, _∙_}
 use borrow.Author.Needs.{needs}
 use Rattle.noting.proofs.ios.io_limits.Statement.{statement}
 use Rattle.noting.proofs.ios.io_limits.Tie as tie
-use Rattle.noting.proofs.ios.io_limits.Reads as reads
-use Rattle.noting.proofs.ios.io_limits.Lts as lts
-use Rattle.kinds.proofs.wide.Reads as wide-reads
-use Rattle.noting.proofs.ios.io_cramped.Reads as io-cramped-reads
-use Rattle.noting.proofs.ios.refuse.Reads as refuse-reads
 
--- src/ios.rt:53:9
 refuse-requires : tie.Need-refuse-requires
 refuse-requires c κs = search needs
 
--- src/ios.rt:53:9
 returns : tie.Need-returns
 returns c = let a = c .before .before .args in λ text N s t. c .refuse .ensures ∙ io-nameless N (ioIn text (a .name) (a .width)) (a .place) (sym (s .size) ∙ c .before .if1 .taken)
 
--- src/ios.rt:55:8
 wide-requires : tie.Need-wide-requires
 wide-requires c κs = search needs
 
--- src/ios.rt:56:12
 io-cramped-requires : tie.Need-io-cramped-requires
 io-cramped-requires c κs = search needs
 
--- src/ios.rt:57:13
 refuse-requires-2 : tie.Need-refuse-requires-2
 refuse-requires-2 c κs = search needs
 
--- src/ios.rt:57:13
 returns-2 : tie.Need-returns-2
 returns-2 c = let p = c .before .before .before .before .before in let a = p .before .args in λ text N s t. let i = ioIn text (a .name) (a .width) in c .refuse2 .ensures ∙ io-cramps N i (a .place) (λ z. p .if1 .left (s .size ∙ z)) (sym (c .before .before .before .before .wide .ensures) ∙ c .before .before .before .if2 .taken) (sym (c .before .before .io-cramped .ensures N i t (s .size)) ∙ c .before .if3 .taken)
 
--- src/ios.rt:59:9
 returns-3 : tie.Need-returns-3
 returns-3 c = let p = c .before .before .before .before in let a = p .before .args in λ text N s t. let i = ioIn text (a .name) (a .width) in io-passes N i (a .place) (λ z. p .if1 .left (s .size ∙ z)) (sym (c .before .before .before .wide .ensures) ∙ c .before .before .if2 .taken) (sym (c .before .io-cramped .ensures N i t (s .size)) ∙ c .if3 .left)
 
--- src/ios.rt:61:5
 refuse-requires-3 : tie.Need-refuse-requires-3
 refuse-requires-3 c κs = search needs
 
--- src/ios.rt:47:1
 returns-4 : tie.Need-returns-4
 returns-4 c = let p = c .before .before .before in let a = p .before .args in λ text N s t. let i = ioIn text (a .name) (a .width) in c .refuse3 .ensures ∙ io-misfit N i (a .place) (λ z. p .if1 .left (s .size ∙ z)) (sym (c .before .before .wide .ensures) ∙ c .before .if2 .left)
 

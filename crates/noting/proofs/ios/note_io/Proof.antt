@@ -9,67 +9,49 @@ use mathlib.Core.Path.{_≡_, sym, ap, _∙_}
 use borrow.Author.Needs.{needs}
 use Rattle.noting.proofs.ios.note_io.Statement.{statement}
 use Rattle.noting.proofs.ios.note_io.Tie as tie
-use Rattle.noting.proofs.ios.note_io.Reads as reads
-use Rattle.noting.proofs.ios.note_io.Lts as lts
-use Rattle.noting.proofs.ios.add_io.Reads as add-io-reads
-use Rattle.noting.proofs.ios.io_ruled.Reads as io-ruled-reads
 
--- src/ios.rt:134:46
 sub-io-ruled : tie.Need-sub-io-ruled
 sub-io-ruled c = search needs
 
--- src/ios.rt:134:46
 part-io-ruled-start : tie.Need-part-io-ruled-start
 part-io-ruled-start c = search needs
 
--- src/ios.rt:134:46
 part-io-ruled-end : tie.Need-part-io-ruled-end
 part-io-ruled-end c = search needs
 
--- src/ios.rt:134:11
 io-ruled-requires : tie.Need-io-ruled-requires
 unfolding part
 io-ruled-requires c κs = let s = c .before .before .before .before in let a = s .args in let p = s .pre .1 in let q = io-asks (a .text .now) (p .so) (a .n) (a .rows .now) (p .bits) (p .work) (p .noted) in (q .0, q .1, s .pre .2)
 
--- src/ios.rt:135:25
 enum-known-g : tie.Need-enum-known-g
 enum-known-g c = search needs
 
--- src/ios.rt:137:44
 enum-told : tie.Need-enum-told
 enum-told c = search needs
 
--- src/ios.rt:137:44
 sub-add-io : tie.Need-sub-add-io
 sub-add-io c = search needs
 
--- src/ios.rt:137:44
 part-add-io-start : tie.Need-part-add-io-start
 part-add-io-start c = search needs
 
--- src/ios.rt:137:44
 part-add-io-end : tie.Need-part-add-io-end
 part-add-io-end c = search needs
 
--- src/ios.rt:137:17
 add-io-requires : tie.Need-add-io-requires
 unfolding part
 add-io-requires c κs = let s = c .before .before .before .before .before .before .before .before in let a = s .args in let p = s .pre .1 in let N = p .so .netlist in let i = ioIn (a .text .now) (a .name) (a .width) in let long = p .noted .longRows in let r : 9219 + 192 ≤ length (a .rows .now) = omega arith in (part-length 9219 192 (a .rows .now) r, io-room (a .text .now) N (a .name) (a .width) (a .n) (s .pre .0) (s .pre .2) (io-passed N i (a .place) (a .n) (p .noted .tally) (sym (c .before .before .before .io-ruled .ensures N (p .noted .ios) (p .noted .tally)) ∙ c .before .enum-told .given .1)))
 
--- src/ios.rt:123:1
 same-length : tie.Need-same-length
 same-length c = search needs
 
--- src/ios.rt:123:1
 returns : tie.Need-returns
 unfolding part
 returns c = let s = c .before .before .before .before .before .before .before .before in let a = s .args in λ bits work so index d. io-refused (a .text .now) so (a .place) index (a .name) (a .width) _ (sym (c .before .before .before .io-ruled .ensures (so .netlist) (d .ios) (d .tally)) ∙ c .before .g .given .1)
 
--- src/ios.rt:123:1
 same-length-2 : tie.Need-same-length-2
 same-length-2 c = search needs
 
--- src/ios.rt:123:1
 returns-2 : tie.Need-returns-2
 unfolding part
 returns-2 c = let s = c .before .before .before .before .before .before .before .before .before .before .before in let a = s .args in let m = c .before .before .add-io .ensures in λ bits work so index d. rw (m .0, m .1) (io-after (a .text .now) so (a .n) (a .rows .now) bits work (a .place) index (a .name) (a .width) d (s .pre .2) (sym (c .before .before .before .before .before .before .io-ruled .ensures (so .netlist) (d .ios) (d .tally)) ∙ c .before .before .before .before .enum-told .given .1))

@@ -5,50 +5,37 @@ use Prim.Native.Nat.{suc, _+_, _*_}
 use borrow.Author.Needs.{needs}
 use Rattle.noting.proofs.ios.put_io.Statement.{statement}
 use Rattle.noting.proofs.ios.put_io.Tie as tie
-use Rattle.noting.proofs.ios.put_io.Reads as reads
-use Rattle.noting.proofs.ios.put_io.Lts as lts
 
--- src/ios.rt:88:14
 mul-at : tie.Need-mul-at
 mul-at c = search needs
 
--- src/ios.rt:89:5
 mul-ios : tie.Need-mul-ios
 mul-ios c = search needs
 
--- src/ios.rt:89:5
 slice-write-ios : tie.Need-slice-write-ios
 slice-write-ios c = search needs
 
--- src/ios.rt:90:9
 add-ios : tie.Need-add-ios
 add-ios c = search needs
 
--- src/ios.rt:90:5
 mul-ios-2 : tie.Need-mul-ios-2
 mul-ios-2 c = search needs
 
--- src/ios.rt:90:5
 slice-write-ios-2 : tie.Need-slice-write-ios-2
 slice-write-ios-2 c = simp length-set (omega arith)
 
--- src/ios.rt:91:9
 add-ios-2 : tie.Need-add-ios-2
 add-ios-2 c = search needs
 
--- src/ios.rt:91:5
 mul-ios-3 : tie.Need-mul-ios-3
 mul-ios-3 c = search needs
 
--- src/ios.rt:91:5
 slice-write-ios-3 : tie.Need-slice-write-ios-3
 slice-write-ios-3 c = simp length-set (omega arith)
 
--- src/ios.rt:84:1
 same-length : tie.Need-same-length
 same-length c = search needs
 
--- src/ios.rt:84:1
 returns : tie.Need-returns
 returns c = let k = c .args .n * 3 in let a : k + 1 ≡ suc k = omega arith in let b : k + 2 ≡ suc (suc k) = omega arith in rw (a, b)
 

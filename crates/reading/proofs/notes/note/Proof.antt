@@ -6,9 +6,9 @@ use Rattle.reading.proofs.notes.note.Statement.{statement}
 use Rattle.reading.proofs.notes.note.Tie as tie
 use Rattle.reading.proofs.notes.note.Reads as reads
 use Rattle.reading.proofs.notes.note.Lts as lts
-use Rattle.noting.proofs.cells.note_cell.Reads as note-cell-reads
+use Rattle.wiring.proofs.note_cell.Reads as note-cell-reads
 use Rattle.noting.proofs.ios.note_io.Reads as note-io-reads
-use Rattle.noting.proofs.metas.note_meta.Reads as note-meta-reads
+use Rattle.metas.proofs.note_meta.Reads as note-meta-reads
 use Rattle.reading.proofs.notes.sort_of.Reads as sort-of-reads
 
 -- src/notes.rt:54:11

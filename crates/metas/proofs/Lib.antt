@@ -1,0 +1,4 @@
+pub mod MetaLaws
+pub mod MetaNotes
+pub mod MetaAfter
+pub mod MetaTop

@@ -1,0 +1,12 @@
+pub mod CellMaps
+pub mod CellLists
+pub mod CellWidths
+pub mod CellPlaces
+pub mod CellFits
+pub mod CellRooms
+pub mod CellMore
+pub mod CellTight
+pub mod CellRegions
+pub mod CellTwice
+pub mod CellKeep
+pub mod CellRules
