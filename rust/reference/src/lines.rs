@@ -76,7 +76,11 @@ fn write(mut from: &[u8], round: Option<u32>, text: &mut Vec<u8>) -> Option<()> 
 /// What reading answers, in the words of `crates/readings/stdout` behind the line and its arrow.
 pub fn answer(text: &[u8], tables: &mut Tables, work: &mut Work) -> String {
     match read_into(text, tables, work) {
-        Err(Refusal { number, place }) => format!("refused {number} at {place}"),
+        Err(Refusal { number, place }) => {
+            let clear =
+                tables.rows.iter().all(|word| *word == 0) && tables.strings.iter().chain(&tables.trits).all(|byte| *byte == 0);
+            format!("refused {number} at {place}{}", if clear { "" } else { " (not cleared)" })
+        }
         Ok(()) => {
             let rows = &tables.rows;
             let sums = [

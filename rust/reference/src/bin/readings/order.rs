@@ -243,7 +243,7 @@ fn with_choices(form: &Form, choices: &[(usize, usize)]) -> Case {
 fn keywords() -> Vec<Case> {
     let cells = ["input", "output", "buf", "not", "and", "or", "xor", "mux", "adc", "eq", "ult", "slt"];
     let metas = ["source", "scope", "ident", "attr"];
-    let others = ["io", "set", "in", "src", "target", "x", "dff", "sub", "memory", "instance"];
+    let others = ["io", "set", "in", "src", "target", "x", "dff", "sub", "memory", "instance", "attribute"];
     let openings: [(&str, &[&str]); 3] = [("%0:1", &cells), ("!0", &metas), ("&\"a\":1", &["io"])];
     let mut cases = Vec::new();
     for (opening, own) in openings {
