@@ -1,23 +1,15 @@
-// The worked texts of the text layer, run. Each line of standard input is one text: `\n`, `\r`, `\t` and `\\` stand for themselves as
-// usual, `\xHH` for a byte, all other bytes for themselves. For each it writes the line and what the text layer answers: the number of
-// declarations by their form, or the first refusal 2 to 8 with its place. The expected answers stand in `stdout`.
+// The worked texts of the text layer, run. Each line of standard input says one text (`worked` tells how). For each it writes the line
+// and what the text layer answers: the number of declarations by their form, or the first refusal 2 to 8 with its place. The expected
+// answers stand in `stdout`.
 use form::Form;
 use ground::Place;
-use ground::Refusal;
 use lexis::Reader;
 use lexis::Whole;
 use libc::STDIN_FILENO;
 use libc::STDOUT_FILENO;
-ghost use Prim.Native.Nat.{_≤_, _+_};
-ghost use lib.ListN.{length};
-
-fn tell_refused(r: Refusal) {
-    io::write_all(STDOUT_FILENO, b"refused ");
-    io::print_decimal(STDOUT_FILENO, r.number as u64);
-    io::write_all(STDOUT_FILENO, b" at ");
-    let place = r.place;
-    io::print_decimal(STDOUT_FILENO, place.at as u64);
-}
+use worked::find;
+use worked::put_text;
+use worked::tell_refused;
 
 fn tell_found(count: usize) {
     io::write_all(STDOUT_FILENO, b"ok ");
@@ -58,90 +50,6 @@ fn tell(text: &[u8]) {
     }
 }
 
-fn hex(b: u8) -> u8
-    ensures { λ r. ⌜ r ≤ 15 ⌝ }
-{
-    if b < 48 {
-        return 0;
-    }
-    if b < 58 {
-        return b - 48;
-    }
-    if b < 97 {
-        return 0;
-    }
-    if b < 103 {
-        return b - 87;
-    }
-    0
-}
-
-struct Meant {
-    byte: u8,
-    size: usize,
-}
-
-// The byte that stands at a place of a line, and how many bytes of the line say it.
-fn byte_meant(line: &[u8], at: usize) -> Meant
-    ensures { λ r. ⌜ r .size ≤ 4 ⌝ }
-{
-    if at < line.len() {
-        let b = line[at];
-        if b != 92 {
-            return Meant { byte: b, size: 1 };
-        }
-        if line.len() - at < 2 {
-            return Meant { byte: b, size: 1 };
-        }
-        let c = line[at + 1];
-        if c == 110 {
-            return Meant { byte: 10, size: 2 };
-        }
-        if c == 114 {
-            return Meant { byte: 13, size: 2 };
-        }
-        if c == 116 {
-            return Meant { byte: 9, size: 2 };
-        }
-        if c == 120 {
-            if 4 <= line.len() - at {
-                let high = hex(line[at + 2]);
-                let low = hex(line[at + 3]);
-                return Meant {
-                    byte: high * 16 + low,
-                    size: 4,
-                };
-            }
-        }
-        return Meant { byte: c, size: 2 };
-    }
-    Meant { byte: 0, size: 1 }
-}
-
-// The text that a line says, into the room; its size.
-fn put_text(line: &[u8], room: &mut [u8]) -> usize
-    ensures { λ n. ⌜ n ≤ length (now (room .entry)) ⌝ }
-{
-    let mut at: usize = 0;
-    let mut n: usize = 0;
-    while n < room.len() {
-        if line.len() <= at {
-            return n;
-        }
-        let m = byte_meant(line, at);
-        room[n] = m.byte;
-        n += 1;
-        if m.size == 0 {
-            return n;
-        }
-        if line.len() - at < m.size {
-            return n;
-        }
-        at += m.size;
-    }
-    n
-}
-
 fn tell_line(line: &[u8]) {
     let mut room = [0u8; 4096];
     io::write_all(STDOUT_FILENO, line);
@@ -151,25 +59,10 @@ fn tell_line(line: &[u8]) {
     io::write_all(STDOUT_FILENO, b"\n");
 }
 
-// The place of the line feed at or past `from`, or the end.
-fn line_end(all: &[u8], from: usize) -> usize
-    requires { ⌜ from ≤ length (now all) ⌝ }
-    ensures { λ r. ⌜ (from ≤ r) × (r ≤ length (now (all .entry))) ⌝ }
-{
-    let mut i = from;
-    while i < all.len() {
-        if all[i] == 10 {
-            return i;
-        }
-        i += 1;
-    }
-    i
-}
-
 fn tell_all(all: &[u8]) {
     let mut from: usize = 0;
     while from < all.len() {
-        let end = line_end(all, from);
+        let end = find(all, from, 10);
         tell_line(&all[from..end]);
         from = end + 1;
     }

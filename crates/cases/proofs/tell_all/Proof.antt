@@ -5,7 +5,7 @@ use Rattle.cases.proofs.tell_all.Statement.{statement}
 use Rattle.cases.proofs.tell_all.Tie as tie
 use Rattle.cases.proofs.tell_all.Reads as reads
 use Rattle.cases.proofs.tell_all.Lts as lts
-use Rattle.cases.proofs.line_end.Reads as line-end-reads
+use Rattle.worked.proofs.find.Reads as find-reads
 use Rattle.cases.proofs.tell_line.Reads as tell-line-reads
 
 abbrev Inv-loop : tie.InvT-loop
@@ -19,8 +19,8 @@ loop-holds : tie.Need-loop-holds Inv-loop μ-loop
 loop-holds c = search needs
 
 -- src/main.rt:171:13
-line-end-requires : tie.Need-line-end-requires Inv-loop μ-loop
-line-end-requires c κs = search needs
+find-requires : tie.Need-find-requires Inv-loop μ-loop
+find-requires c κs = search needs
 
 -- src/main.rt:172:19
 sub-tell-line : tie.Need-sub-tell-line Inv-loop μ-loop
@@ -61,7 +61,7 @@ tell-all-spec =
     Inv-loop
     μ-loop
     loop-holds
-    line-end-requires
+    find-requires
     sub-tell-line
     part-tell-line-start
     part-tell-line-end

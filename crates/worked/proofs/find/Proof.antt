@@ -2,47 +2,47 @@ use mathlib.Core.Path.{_≡_}
 use lib.ListN.{length}
 use Prim.Native.Nat.{_≤_, _-_, _+_}
 use borrow.Author.Needs.{needs}
-use Rattle.cases.proofs.line_end.Statement.{statement}
-use Rattle.cases.proofs.line_end.Tie as tie
-use Rattle.cases.proofs.line_end.Reads as reads
-use Rattle.cases.proofs.line_end.Lts as lts
+use Rattle.worked.proofs.find.Statement.{statement}
+use Rattle.worked.proofs.find.Tie as tie
+use Rattle.worked.proofs.find.Reads as reads
+use Rattle.worked.proofs.find.Lts as lts
 
 abbrev Inv-loop : tie.InvT-loop
-Inv-loop all from i₀ i = (from ≤ i) × (i ≤ length all)
+Inv-loop line from byte i₀ i = (from ≤ i) × (i ≤ length line)
 
 abbrev μ-loop : tie.MeasureT-loop
-μ-loop all from i₀ i = length all - i
+μ-loop line from byte i₀ i = length line - i
 
--- src/main.rt:159:5
+-- src/lib.rt:42:5
 loop-holds : tie.Need-loop-holds Inv-loop μ-loop
 loop-holds c = search needs
 
--- src/main.rt:160:12
+-- src/lib.rt:43:12
 shared-slice-read-if1 : tie.Need-shared-slice-read-if1 Inv-loop μ-loop
 shared-slice-read-if1 c = search needs
 
--- src/main.rt:161:13
+-- src/lib.rt:44:13
 returns : tie.Need-returns Inv-loop μ-loop
 returns c = search needs
 
--- src/main.rt:163:9
+-- src/lib.rt:46:9
 add-i : tie.Need-add-i Inv-loop μ-loop
 add-i c = search needs
 
--- src/main.rt:159:5
+-- src/lib.rt:42:5
 loop-less : tie.Need-loop-less Inv-loop μ-loop
 loop-less c = search needs
 
--- src/main.rt:159:5
+-- src/lib.rt:42:5
 loop-again : tie.Need-loop-again Inv-loop μ-loop
 loop-again c = search needs
 
--- src/main.rt:154:1
+-- src/lib.rt:37:1
 returns-2 : tie.Need-returns-2 Inv-loop μ-loop
 returns-2 c = search needs
 
-pub line-end-spec : {M : Type 1} → statement M
-line-end-spec =
+pub find-spec : {M : Type 1} → statement M
+find-spec =
     tie.close
     (tie.spec
     Inv-loop

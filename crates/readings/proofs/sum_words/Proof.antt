@@ -1,0 +1,64 @@
+use mathlib.Core.Path.{_≡_}
+use lib.ListN.{length}
+use Prim.Native.Nat.{_<_, _≤_, _-_, _+_}
+use borrow.Author.Needs.{needs}
+use Rattle.readings.proofs.sum_words.Statement.{statement}
+use Rattle.readings.proofs.sum_words.Tie as tie
+use Rattle.readings.proofs.sum_words.Reads as reads
+use Rattle.readings.proofs.sum_words.Lts as lts
+use Rattle.readings.proofs.plus.Reads as plus-reads
+use Rattle.readings.proofs.plus_sum.Reads as plus-sum-reads
+use Rattle.readings.proofs.word_at.Reads as word-at-reads
+
+abbrev Inv-loop : tie.InvT-loop
+Inv-loop words n i₀ last₀ sum₀ i last sum = (last < 4294967291) × (sum < 4294967291)
+
+abbrev μ-loop : tie.MeasureT-loop
+μ-loop words n i₀ last₀ sum₀ i last sum = i
+
+-- src/main.rt:47:5
+loop-holds : tie.Need-loop-holds Inv-loop μ-loop
+loop-holds c = search needs
+
+-- src/main.rt:48:9
+sub-i : tie.Need-sub-i Inv-loop μ-loop
+sub-i c = search needs
+
+-- src/main.rt:49:27
+word-at-requires : tie.Need-word-at-requires Inv-loop μ-loop
+word-at-requires c κs = search needs
+
+-- src/main.rt:49:9
+plus-requires : tie.Need-plus-requires Inv-loop μ-loop
+plus-requires c κs = search needs
+
+-- src/main.rt:50:9
+plus-sum-requires : tie.Need-plus-sum-requires Inv-loop μ-loop
+plus-sum-requires c κs = search needs
+
+-- src/main.rt:47:5
+loop-less : tie.Need-loop-less Inv-loop μ-loop
+loop-less c = search needs
+
+-- src/main.rt:47:5
+loop-again : tie.Need-loop-again Inv-loop μ-loop
+loop-again c = search needs
+
+-- src/main.rt:43:1
+returns : tie.Need-returns Inv-loop μ-loop
+returns c = search needs
+
+pub sum-words-spec : {M : Type 1} → statement M
+sum-words-spec =
+    tie.close
+    (tie.spec
+    Inv-loop
+    μ-loop
+    loop-holds
+    sub-i
+    word-at-requires
+    plus-requires
+    plus-sum-requires
+    loop-less
+    loop-again
+    returns)
