@@ -7,12 +7,16 @@ use lexis::Step;
 use lexis::Whole;
 use lexis::classes::classes;
 use lexis::scan::whole;
+use reading::Read;
+use reading::read_text;
 ghost use mathlib.Core.Path.{_≡_};
 ghost use Prim.Native.Nat.{_+_, _≤_};
 ghost use lib.ListN.{length};
 ghost use Rattle.lexis.specs.Bytes.{table};
 ghost use Rattle.lexis.specs.Whole.{wholeOf};
-ghost use Rattle.grackleivy.specs.Told.{told, counted, refusedAt, movedBy, tokensFrom, tokensOf, toldOf};
+ghost use Rattle.reading.specs.Outcome.{readOf};
+ghost use Rattle.grackleivy.specs.Told.{toldOf, told, counted, refusedAt, movedBy, tokensFrom, tokensOf};
+ghost use Rattle.grackleivy.specs.Seen.{toldRead, seen, seenOf};
 
 // A refusal number with its place; 0 and 0 where nothing is refused.
 #[repr(C)]
@@ -97,20 +101,33 @@ fn count_from(t: &[u8; 256], text: &[u8]) -> Counted
     counted_to(tokens)
 }
 
+fn accepted() -> Told
+    ensures { λ r. ⌜ r ≡ toldOf 0 0 ⌝ }
+{
+    Told {
+        number: 0,
+        place: 0,
+    }
+}
+
+fn told_by(g: Refusal) -> Told
+    ensures { λ r. ⌜ r ≡ toldOf (g .number) (g .place .at) ⌝ }
+{
+    let number = g.number as u32;
+    Told {
+        number,
+        place: g.place.at as u64,
+    }
+}
+
 // The text as a whole: refusal 2, 3 or 4 with its place.
 #[no_mangle]
 pub extern "C" fn grackle_whole(text: &[u8]) -> Told
     ensures { λ r. ⌜ r ≡ told (wholeOf (now (text .entry))) ⌝ }
 {
     match whole(text) {
-        Whole::Sound => Told {
-            number: 0,
-            place: 0,
-        },
-        Whole::Unsound(g) => Told {
-            number: g.number as u32,
-            place: g.place.at as u64,
-        },
+        Whole::Sound => accepted(),
+        Whole::Unsound(g) => told_by(g),
     }
 }
 
@@ -126,4 +143,27 @@ pub extern "C" fn grackle_tokens(text: &[u8]) -> Counted
             count_from(&t, text)
         }
     }
+}
+
+fn tell_read(r: Read) -> Told
+    ensures { λ t. ⌜ t ≡ toldRead r ⌝ }
+{
+    match r {
+        Read::Accepted => accepted(),
+        Read::Refused(g) => told_by(g),
+    }
+}
+
+// The reading of a text into three lent tables, in lent work space: refusal 1 to 14 with its place.
+#[no_mangle]
+pub extern "C" fn grackle_read(
+    text: &[u8],
+    rows: &mut [u32],
+    strings: &mut [u8],
+    trits: &mut [u8],
+    work: &mut [u32],
+) -> Told
+    ensures { λ r. ⌜ seen r (now (rows .exit)) (now (strings .exit)) (now (trits .exit)) (now (work .exit)) ≡ seenOf (readOf (now (text .entry)) (now (rows .entry)) (now (strings .entry)) (now (trits .entry)) (now (work .entry))) ⌝ }
+{
+    tell_read(read_text(text, rows, strings, trits, work))
 }

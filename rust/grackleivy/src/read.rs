@@ -1,6 +1,6 @@
 //! Reading a text into lent tables.
 
-use crate::Refusal;
+use crate::{Refusal, Told};
 
 /// Words of the rows table; `docs/LAYOUT.md` tells what lies where.
 pub const ROWS: usize = 26_307;
@@ -23,7 +23,7 @@ extern "C" {
         trits_len: usize,
         work: *mut u32,
         work_len: usize,
-    ) -> u64;
+    ) -> Told;
 }
 
 /// Reads a text into the three tables: refusal 1 to 14, or the layout of the netlist that the text says.
@@ -46,8 +46,8 @@ pub fn read(text: &[u8], rows: &mut [u32], strings: &mut [u8], trits: &mut [u8],
             work.len(),
         )
     };
-    match told {
+    match told.number {
         0 => Ok(()),
-        _ => Err(Refusal { number: (told >> 32) as u32, place: told & 0xffff_ffff }),
+        number => Err(Refusal { number, place: told.place }),
     }
 }
