@@ -11,7 +11,7 @@ ghost use Rattle.lexis.specs.Bytes.{table};
 ghost use Rattle.kinds.specs.Kinds.{kindAt};
 ghost use Rattle.saying.specs.Notes.{operandWord, MetaNote, metaNote, Maps};
 ghost use Rattle.form.specs.declared.Decl.the-variants as decl;
-ghost use Rattle.saying.specs.Values.{refRow};
+ghost use Rattle.saying.specs.Values.{rowOf, refRow};
 ghost use Rattle.saying.specs.Rules.{Sofar};
 ghost use Rattle.netlist.specs.Rules.{anyKind};
 ghost use Rattle.ground.specs.Lists.{joined};
@@ -209,6 +209,14 @@ fn lay_runs(
     )
 }
 
+// The row of the cell's number plus one, 0 where it is new.
+fn number_row(work: &[u32], index: u32) -> u32
+    requires { ⌜ length (now work) ≡ 132608 ⌝ }
+    ensures { λ row. ⌜ ((numbers : List ℕ) → Maps numbers (cellMapIn (now (work .entry))) → index < 65536 → row ≡ rowOf numbers index) ⌝ }
+{
+    row_of(&work[0..65536], index)
+}
+
 // The row of the cell's metadata plus one.
 fn meta_row(work: &[u32], r: Ref) -> u32
     requires { ⌜ length (now work) ≡ 132608 ⌝ }
@@ -222,7 +230,7 @@ fn is_twice(text: &[u8], rows: &[u32], work: &[u32], index: u32, w: Wiring, n: u
     requires { ⌜ (length (now rows) ≡ 26307) × (length (now work) ≡ 132608) × CellsNoted (now text) (cellsIn (now rows)) n × (kindAt (w .kind) .named ≡ true → StrIn (now text) (w .name)) ⌝ }
     ensures { λ r. ⌜ (Twice (now (text .entry)) w index n (now (rows .entry)) (now (work .entry)) r) ⌝ }
 {
-    if 1 <= row_of(&work[0..65536], index) {
+    if 1 <= number_row(work, index) {
         return true;
     }
     let kind = w.kind;

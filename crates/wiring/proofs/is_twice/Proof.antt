@@ -1,26 +1,17 @@
-use Rattle.saying.specs.Notes.{cellsSaid}
 use mathlib.Core.Path.{sym, _∙_}
-use Rattle.wiring.proofs.CellTwice.{twice-number, twice-name, twice-nothing}
 use Rattle.ground.specs.Regions.{part}
+use Rattle.saying.specs.Notes.{cellsSaid}
+use Rattle.wiring.proofs.CellTwice.{twice-number, twice-name, twice-nothing}
 use borrow.Author.Needs.{needs}
 use Rattle.wiring.proofs.is_twice.Statement.{statement}
 use Rattle.wiring.proofs.is_twice.Tie as tie
 
-sub-row-of : tie.Need-sub-row-of
-sub-row-of c = search needs
-
-part-row-of-start : tie.Need-part-row-of-start
-part-row-of-start c = search needs
-
-part-row-of-end : tie.Need-part-row-of-end
-part-row-of-end c = search needs
-
-row-of-requires : tie.Need-row-of-requires
-row-of-requires c κs = search needs
+number-row-requires : tie.Need-number-row-requires
+number-row-requires c κs = search needs
 
 returns : tie.Need-returns
-unfolding part
-returns c = let a = c .before .before .before .before .before .before .args in λ numbers ns m small rows count sp. twice-number (a .text .now) (a .w) numbers (a .index) (cellsSaid ns) _ (c .before .row-of .ensures .1 numbers m small) (c .if1 .taken)
+returns c = let a = c .before .before .before .before .before .args in λ numbers ns m small rows count sp.
+    twice-number (a .text .now) (a .w) numbers (a .index) (cellsSaid ns) _ (c .before .number-row .ensures numbers m small) (c .if1 .taken)
 
 has-name-requires : tie.Need-has-name-requires
 has-name-requires c κs = search needs
@@ -36,24 +27,22 @@ part-cell-taken-end c = search needs
 
 cell-taken-requires : tie.Need-cell-taken-requires
 unfolding part
-cell-taken-requires c κs = let s = c .before .before .before .before .before .before .before .before .before .before in (s .pre .2, s .pre .3 (sym (c .before .before .has-name .ensures) ∙ c .before .if2 .taken) .size)
+cell-taken-requires c κs = let s = c .before .before .before .before .before .before .before .before .before in (s .pre .2, s .pre .3 (sym (c .before .before .has-name .ensures) ∙ c .before .if2 .taken) .size)
 
 returns-2 : tie.Need-returns-2
 unfolding part
-returns-2 c = let a = c .before .before .before .before .before .before .before .before .before .before .before .args in λ numbers ns m small rows count sp. twice-name (a .text .now) (a .w) numbers (a .index) (cellsSaid ns) _ (c .before .before .before .before .before .before .row-of .ensures .1 numbers m small) (c .before .before .before .before .before .if1 .left) _ (sym (c .before .before .before .has-name .ensures) ∙ c .before .before .if2 .taken) (c .cell-taken .ensures ns rows count sp)
+returns-2 c = let a = c .before .before .before .before .before .before .before .before .before .before .args in λ numbers ns m small rows count sp.
+    twice-name (a .text .now) (a .w) numbers (a .index) (cellsSaid ns) _ (c .before .before .before .before .before .before .number-row .ensures numbers m small) (c .before .before .before .before .before .if1 .left) _ (sym (c .before .before .before .has-name .ensures) ∙ c .before .before .if2 .taken) (c .cell-taken .ensures ns rows count sp)
 
 returns-3 : tie.Need-returns-3
-unfolding part
-returns-3 c = let a = c .before .before .before .before .before .before .before .before .before .args in λ numbers ns m small rows count sp. twice-nothing (a .text .now) (a .w) numbers (a .index) (cellsSaid ns) _ (c .before .before .before .before .row-of .ensures .1 numbers m small) (c .before .before .before .if1 .left) (sym (c .before .has-name .ensures) ∙ c .if2 .left)
+returns-3 c = let a = c .before .before .before .before .before .before .before .before .args in λ numbers ns m small rows count sp.
+    twice-nothing (a .text .now) (a .w) numbers (a .index) (cellsSaid ns) _ (c .before .before .before .before .number-row .ensures numbers m small) (c .before .before .before .if1 .left) (sym (c .before .has-name .ensures) ∙ c .if2 .left)
 
 pub is-twice-spec : {M : Type 1} → statement M
 is-twice-spec =
     tie.close
     (tie.spec
-    sub-row-of
-    part-row-of-start
-    part-row-of-end
-    row-of-requires
+    number-row-requires
     returns
     has-name-requires
     sub-cell-taken
