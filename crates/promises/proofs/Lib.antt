@@ -1,2 +1,4 @@
 pub mod Lines
 pub mod Promises
+pub mod Cases
+pub mod Texts

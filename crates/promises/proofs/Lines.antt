@@ -23,7 +23,7 @@ use Rattle.netlist.specs.Good.{laid, good, short, checkOf, ioFrom, lookupOf}
 use Rattle.saying.specs.Values.{rowFrom, copies, operandRuns}
 use Rattle.saying.specs.Pieces.{operandPieces, firstUnresolved}
 use Rattle.saying.specs.Rules.{saidBy, added, firstMisnamed, ruledOut}
-use Rattle.reading.specs.Reading.{declarationsFrom, netlistOf, readSound, reading}
+use Rattle.declaring.specs.Reading.{declarationsFrom, netlistOf, readSound, reading}
 use Rattle.printing.specs.Decimal.{digits, places, signed}
 use Rattle.printing.specs.Words.{text, number, hash, escaped, quoted, trits, reference, offset, width, runs, references}
 use Rattle.printing.specs.Lines.{option, point, metaLines, ioLines, numbersFrom, nameText, operandText, cellLine, cellLines, lines, canonical}

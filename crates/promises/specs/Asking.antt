@@ -7,7 +7,7 @@ use Rattle.netlist.specs.Netlist.{Netlist}
 use Rattle.netlist.specs.Good.{lookup}
 use Rattle.netlist.specs.declared.Found.{Found}
 use Rattle.netlist.specs.declared.Found.the-variants as found
-use Rattle.reading.specs.Reading.{Reading, says, refused, reading}
+use Rattle.declaring.specs.Reading.{Reading, says, refused, reading}
 use Rattle.printing.specs.Outcome as print
 use Rattle.printing.specs.Lines.{canonical}
 use Rattle.printing.specs.declared.Printed.{Printed}

@@ -31,15 +31,15 @@ use Rattle.resolving.specs.Resolving.{Looks, lostAt, lostOf}
 use Rattle.resolving.specs.declared.Lost.{Lost}
 use Rattle.resolving.specs.declared.Lost.the-variants as lost
 use Rattle.resolving.proofs.Finding.{all-found}
-use Rattle.reading.specs.Reading.{Reading, says, refused, declarationsFrom, netlistOf, readSound, reading}
+use Rattle.declaring.specs.Reading.{Reading, says, refused, declarationsFrom, netlistOf, readSound, reading}
 use Rattle.reading.specs.Outcome.{Outcome, made, left, filled, behindRows, behindStrings, behindBits, behindWork, readOf}
-use Rattle.reading.specs.Finish.{Ready, Settled}
-use Rattle.reading.specs.Going.{Blank, Whole, AllNoted, AllOf}
+use Rattle.finishing.specs.Finish.{Ready, Settled}
+use Rattle.declaring.specs.Going.{Blank, Whole, AllNoted, AllOf}
 use Rattle.reading.specs.Answers.{FindsLost, Laid, AnswersOf, Answers, ClearsOf, Clears, Ends}
 use Rattle.reading.specs.declared.Read.{Read}
 use Rattle.reading.specs.declared.Read.the-variants as read
-use Rattle.reading.specs.declared.declarations.Told.{Told}
-use Rattle.reading.specs.declared.declarations.Told.the-variants as told
+use Rattle.declaring.specs.declared.declarations.Told.{Told}
+use Rattle.declaring.specs.declared.declarations.Told.the-variants as told
 use Rattle.reading.proofs.Final.{rows-final, bits-final, strings-final}
 
 -- THE WIDTHS stand in the cell rows

@@ -13,8 +13,8 @@ use Rattle.saying.specs.Values.{rowRun, rowCell}
 use Rattle.saying.specs.Rules.{Sofar}
 use Rattle.settling.proofs.Left.{length-mapped}
 use Rattle.noting.specs.Noted.{metasIn, membersIn, iosIn, cellsIn, runsIn, attrTritsIn, runTritsIn}
-use Rattle.reading.specs.Reading.{netlistOf}
-use Rattle.reading.specs.Finish.{Settled}
+use Rattle.declaring.specs.Reading.{netlistOf}
+use Rattle.finishing.specs.Finish.{Settled}
 
 -- ROWS FOR NUMBERS change no length, no name and no trit
 module _ (numbers : List ℕ) where

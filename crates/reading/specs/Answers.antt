@@ -12,8 +12,8 @@ use Rattle.noting.specs.Noted.{Noted}
 use Rattle.noting.specs.declared.Tally.{Tally}
 use Rattle.resolving.specs.Resolving.{lostAt}
 use Rattle.resolving.specs.declared.Lost.{Lost}
-use Rattle.reading.specs.Reading.{says, refused, readSound}
-use Rattle.reading.specs.Going.{Whole}
+use Rattle.declaring.specs.Reading.{says, refused, readSound}
+use Rattle.declaring.specs.Going.{Whole}
 use Rattle.reading.specs.declared.Read.{Read}
 use Rattle.reading.specs.declared.Read.the-variants as read
 

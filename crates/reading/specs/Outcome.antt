@@ -9,7 +9,7 @@ use Rattle.ground.specs.Refusals.{at, refusal}
 use Rattle.ground.specs.Regions.{zeros, over}
 use Rattle.netlist.specs.Tables.{layout, rowsOf, bitsOf, rowsLength, stringsLength, bitsLength}
 use Rattle.netlist.specs.Good.{short}
-use Rattle.reading.specs.Reading.{Reading, says, refused, reading}
+use Rattle.declaring.specs.Reading.{Reading, says, refused, reading}
 use Rattle.reading.specs.declared.Read.{Read}
 use Rattle.reading.specs.declared.Read.the-variants as read
 

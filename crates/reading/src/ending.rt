@@ -1,6 +1,6 @@
 // The end of a reading whose declarations are all noted: 14, or the tables.
 use crate::Read;
-use crate::finish::finish;
+use finishing::finish::finish;
 use ground::Refusal;
 use noting::Tally;
 use resolving::Lost;

@@ -1,15 +1,12 @@
 // Reading: any bytes in; a netlist in lent tables, or a numbered refusal with its place. It promises the outcome that the
 // definitions of specs/ give, every lent byte included. Noting, resolving and settling stand below it, the programs above.
 mod clearing;
-mod declarations;
 mod ending;
-mod finish;
-mod notes;
 
 use clearing::clear_bytes;
 use clearing::clear_words;
-use declarations::Told;
-use declarations::declarations;
+use declaring::declarations::Told;
+use declaring::declarations::declarations;
 use ending::end_reading;
 use ground::Place;
 use ground::Refusal;
@@ -22,8 +19,8 @@ ghost use lib.ListN.{length};
 ghost use Rattle.ground.specs.Regions.{zeros};
 ghost use Rattle.ground.specs.Refusals.{at, refusal};
 ghost use Rattle.lexis.specs.Bytes.{table};
-ghost use Rattle.reading.specs.Going.{Blank};
-ghost use Rattle.reading.specs.Reading.{reading};
+ghost use Rattle.declaring.specs.Going.{Blank};
+ghost use Rattle.declaring.specs.Reading.{reading};
 ghost use Rattle.reading.specs.Answers.{Answers, Clears};
 ghost use Rattle.reading.specs.Outcome.{made, filled, behindRows, behindStrings, behindBits, behindWork, readOf};
 ghost use Rattle.reading.specs.declared.Read.the-variants as read;

@@ -4,7 +4,7 @@ use Rattle.reading.proofs.read_sound.Statement.{statement}
 use Rattle.reading.proofs.read_sound.Tie as tie
 use Rattle.reading.proofs.read_sound.Reads as reads
 use Rattle.reading.proofs.read_sound.Lts as lts
-use Rattle.reading.proofs.declarations.declarations.Reads as declarations-reads
+use Rattle.declaring.proofs.declarations.declarations.Reads as declarations-reads
 use Rattle.reading.proofs.ending.end_reading.Reads as end-reading-reads
 
 -- src/lib.rt:49:11

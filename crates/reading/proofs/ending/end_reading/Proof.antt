@@ -1,7 +1,7 @@
 use mathlib.Core.Path.{ap, _∙_}
 use lib.ListN.{length}
 use Rattle.ground.proofs.Regions.{length-zeros}
-use Rattle.reading.proofs.Finishing.{few-rows}
+use Rattle.finishing.proofs.Finishing.{few-rows}
 use Rattle.reading.proofs.Answering.{all-ready, end-lost, end-found}
 use borrow.Author.Needs.{needs}
 use Rattle.reading.proofs.ending.end_reading.Statement.{statement}
@@ -9,7 +9,7 @@ use Rattle.reading.proofs.ending.end_reading.Tie as tie
 use Rattle.reading.proofs.ending.end_reading.Reads as reads
 use Rattle.reading.proofs.ending.end_reading.Lts as lts
 use Rattle.reading.proofs.ending.lost_piece.Reads as lost-piece-reads
-use Rattle.reading.proofs.finish.finish.Reads as finish-reads
+use Rattle.finishing.proofs.finish.finish.Reads as finish-reads
 
 -- src/ending.rt:41:11
 lost-piece-requires : tie.Need-lost-piece-requires
