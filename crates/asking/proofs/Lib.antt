@@ -2,3 +2,4 @@ pub mod NameLaws
 pub mod RefLaws
 pub mod RowLaws
 pub mod TokenLaws
+pub mod Outcomes

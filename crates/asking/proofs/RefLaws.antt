@@ -91,10 +91,12 @@ firsts-agree p q same (r ∷ rs) h =
     bool-cases (q r) (λ b. rw (e ∙ b, firstMisnamed) (rw (b, firstMisnamed)))
     (λ b. rw (e ∙ b, firstMisnamed) (rw (b, firstMisnamed) (firsts-agree p q same rs (f .1))))
 
--- from the first member on, with what the notes say
-pub whole-walk : (text : List ℕ) (k : ℕ) (w : Tour) → w ≡ tourAt text k → (rows metas : List ℕ) (n : ℕ) (ns : List MetaNote) (numbers : List ℕ) → metas ≡ pad 8192 (joined metaNote ns) → n ≡ length ns → Maps numbers rows
-    → firstMisnamed (misnamedIn Member rows metas n) (membersLeft text w) ≡ firstMisnamed (misnamed isMember (kindsSaid ns) numbers) (membersAt text k)
-whole-walk text k w e rows metas n ns numbers m l t =
-    ap (λ (w : Tour). firstMisnamed (misnamedIn Member rows metas n) (membersLeft text w)) e
-    ∙ ap (firstMisnamed (misnamedIn Member rows metas n)) (tour-starts text k)
-    ∙ firsts-agree (misnamedIn Member rows metas n) (misnamed isMember (kindsSaid ns) numbers) (λ r h. misnamed-said Member rows metas n r ns numbers m l t h) (membersAt text k) (members-small (suc (length text)) text k)
+-- from the first member on
+pub walk-starts : (text : List ℕ) (k : ℕ) (w : Tour) → w ≡ tourAt text k → (wrong : Ref → Bool) → firstMisnamed wrong (membersLeft text w) ≡ firstMisnamed wrong (membersAt text k)
+walk-starts text k w e wrong = ap (λ (w : Tour). firstMisnamed wrong (membersLeft text w)) e ∙ ap (firstMisnamed wrong) (tour-starts text k)
+
+-- with what the notes say
+pub walk-said : (text : List ℕ) (k : ℕ) (rows metas : List ℕ) (n : ℕ) (ns : List MetaNote) (numbers : List ℕ) → metas ≡ pad 8192 (joined metaNote ns) → n ≡ length ns → Maps numbers rows
+    → firstMisnamed (misnamedIn Member rows metas n) (membersAt text k) ≡ firstMisnamed (misnamed isMember (kindsSaid ns) numbers) (membersAt text k)
+walk-said text k rows metas n ns numbers m l t =
+    firsts-agree (misnamedIn Member rows metas n) (misnamed isMember (kindsSaid ns) numbers) (λ r h. misnamed-said Member rows metas n r ns numbers m l t h) (membersAt text k) (members-small (suc (length text)) text k)

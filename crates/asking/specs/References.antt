@@ -4,6 +4,7 @@ use mathlib.Core.List.{List, [], _∷_, map}
 use Prim.Native.Nat.{ℕ, _-_, _*_}
 use lib.Dec.{leb}
 use lib.ListN.{getD}
+use Rattle.ground.specs.Choice.{pick}
 use Rattle.form.specs.declared.Ref.{Ref}
 use Rattle.netlist.specs.Netlist.{isScope}
 use Rattle.netlist.specs.Rules.{refers, anyKind, isMember, isSource}
@@ -34,6 +35,9 @@ firstMisnamed wrong [] = Nowhere
 firstMisnamed wrong (r ∷ rs) = elim (wrong r) [ true ↦ At (r .place) | false ↦ firstMisnamed wrong rs ]
 
 -- the same by the tables: a word of the map is a row plus one, and a row of metadata begins with its kind
+abbrev pub refIn : List ℕ → Ref → ℕ
+refIn rows r = pick (r .given) (getD rows (r .index) 0) 0
+
 abbrev pub refersIn : Asks → List ℕ → ℕ → ℕ → Bool
 refersIn asks metas n row = leb 1 row && (leb row n && allowed asks (getD metas ((row - 1) * 16) 0))
 

@@ -19,7 +19,8 @@ ghost use Rattle.netlist.specs.Netlist.{isScope};
 ghost use Rattle.netlist.specs.Rules.{isMember};
 ghost use Rattle.saying.specs.Values.{rowOf, refRow};
 ghost use Rattle.saying.specs.Notes.{MetaNote, metaNote, Maps};
-ghost use Rattle.asking.specs.References.{allowed, kindsSaid, misnamed, firstMisnamed, refersIn, misnamedIn};
+ghost use Rattle.asking.specs.References.{allowed, kindsSaid, misnamed, firstMisnamed, refIn, refersIn, misnamedIn};
+ghost use Rattle.asking.specs.declared.Asks.the-variants.{Member};
 
 // The row of an author's number plus one, 0 where it is not declared.
 pub fn row_of(map: &[u32], index: u32) -> u32
@@ -30,7 +31,7 @@ pub fn row_of(map: &[u32], index: u32) -> u32
 
 // The row of a reference plus one, 0 where none is written.
 pub fn ref_row(map: &[u32], r: Ref) -> u32
-    ensures { λ row. ⌜ ((ns : List ℕ) → Maps ns (now (map .entry)) → r .index < 65536 → row ≡ refRow ns r) ⌝ }
+    ensures { λ row. ⌜ (row ≡ refIn (now (map .entry)) r) × ((ns : List ℕ) → Maps ns (now (map .entry)) → r .index < 65536 → row ≡ refRow ns r) ⌝ }
 {
     let index = r.index;
     if r.given {
@@ -106,7 +107,7 @@ pub fn first_misnamed_member(
     n: usize,
 ) -> Misnaming
     requires { ⌜ (now t ≡ table) × (length (now text) ≤ 65536) ⌝ }
-    ensures { λ r. ⌜ ((ns : List MetaNote) (numbers : List ℕ) → now (metas .entry) ≡ pad 8192 (joined metaNote ns) → n ≡ length ns → Maps numbers (now (map .entry)) → r ≡ firstMisnamed (misnamed isMember (kindsSaid ns) numbers) (membersAt (now (text .entry)) (members .at))) ⌝ }
+    ensures { λ r. ⌜ (r ≡ firstMisnamed (misnamedIn Member (now (map .entry)) (now (metas .entry)) n) (membersAt (now (text .entry)) (members .at))) × ((ns : List MetaNote) (numbers : List ℕ) → now (metas .entry) ≡ pad 8192 (joined metaNote ns) → n ≡ length ns → Maps numbers (now (map .entry)) → r ≡ firstMisnamed (misnamed isMember (kindsSaid ns) numbers) (membersAt (now (text .entry)) (members .at))) ⌝ }
 {
     let mut tour = tour_of(text, members);
     while 0 < tour.left {

@@ -117,3 +117,7 @@ module _ (w a b c : ℕ) where
 -- the contract of `fits` allows one answer
 pub one-fit : (w a b c n : ℕ) (o p : Bool) → o ≡ kindAt n .widths w a b c → p ≡ kindAt n .widths w a b c → o ≡ p
 one-fit w a b c = any-two (λ n. kindAt n .widths w a b c)
+
+-- .. and that of `wide`
+pub one-wide : (n : ℕ) (o p : Bool) → o ≡ wide n → p ≡ wide n → o ≡ p
+one-wide = any-two wide

@@ -7,3 +7,4 @@ pub mod Turning
 pub mod Inside
 pub mod Walking
 pub mod Counting
+pub mod Outcomes

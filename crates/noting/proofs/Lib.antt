@@ -4,3 +4,4 @@ pub mod Growing
 pub mod Limits
 pub mod Passing
 pub mod IoNotes
+pub mod Outcomes

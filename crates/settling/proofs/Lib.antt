@@ -4,3 +4,4 @@ pub mod Left
 pub mod Metas
 pub mod Ios
 pub mod CellRows
+pub mod Outcomes

@@ -35,7 +35,7 @@ enum-told-4 : tie.Need-enum-told-4
 enum-told-4 c = search needs
 
 returns : tie.Need-returns
-returns c = λ ns numbers m l t. rw (c .before .before .decl .given .1) (c .first-misnamed-member .ensures ns numbers m l t)
+returns c = λ ns numbers m l t. rw (c .before .before .decl .given .1) (c .first-misnamed-member .ensures .1 ns numbers m l t)
 
 returns-2 : tie.Need-returns-2
 returns-2 c = λ ns numbers m l t. rw (c .enum-told .given .1)

@@ -47,7 +47,7 @@ loop-less : tie.Need-loop-less Inv-loop μ-loop
 loop-less c = let p = c .before .before .before .before in let l = p .before .before .before in let s = l .before .before .before .before .before in tour-shrinks (s .args .text .now) (l .loop .tour) _ _ (sym (p .tour-step .ensures) ∙ c .before .before .m .given .1)
 
 loop-again : tie.Need-loop-again Inv-loop μ-loop
-loop-again c = let p = c .before .before .before .before in let l = p .before .before .before in let s = l .before .before .before .before .before in let t = s .args .text .now in let e = sym (p .tour-step .ensures) ∙ c .before .before .m .given .1 in let r = member-room t (l .loop .tour) _ _ e (l .loop .to) _ (l .loop .inv .1) in (simp length-set (l .loop .inv .0), r .1, λ ns m. member-more t (l .loop .tour) _ _ e ns (l .loop .pool) (l .loop .to) _ (c .ref-row .ensures ns m (member-small t (l .loop .tour) _ _ e)) ∙ l .loop .inv .2 ns m)
+loop-again c = let p = c .before .before .before .before in let l = p .before .before .before in let s = l .before .before .before .before .before in let t = s .args .text .now in let e = sym (p .tour-step .ensures) ∙ c .before .before .m .given .1 in let r = member-room t (l .loop .tour) _ _ e (l .loop .to) _ (l .loop .inv .1) in (simp length-set (l .loop .inv .0), r .1, λ ns m. member-more t (l .loop .tour) _ _ e ns (l .loop .pool) (l .loop .to) _ (c .ref-row .ensures .1 ns m (member-small t (l .loop .tour) _ _ e)) ∙ l .loop .inv .2 ns m)
 
 enum-told : tie.Need-enum-told Inv-loop μ-loop
 enum-told c = search needs

@@ -74,10 +74,10 @@ returns-2 : tie.Need-returns-2
 returns-2 c = λ ns m. rw (c .source-row .ensures, c .before .spot-of .ensures, c .before .before .before .decl2 .given .1)
 
 returns-3 : tie.Need-returns-3
-returns-3 c = let s = c .before .before .before .before .before .before .before .before in let d = subst (DeclIn (s .args .text .now)) (c .before .before .before .before .decl3 .given .1) (s .pre .1) in λ ns m. rw (c .scope-row .ensures, c .before .ref-row2 .ensures ns m (d .2 .small), c .before .before .ref-row .ensures ns m (d .1 .small), c .before .before .before .before .decl3 .given .1)
+returns-3 c = let s = c .before .before .before .before .before .before .before .before in let d = subst (DeclIn (s .args .text .now)) (c .before .before .before .before .decl3 .given .1) (s .pre .1) in λ ns m. rw (c .scope-row .ensures, c .before .ref-row2 .ensures .1 ns m (d .2 .small), c .before .before .ref-row .ensures .1 ns m (d .1 .small), c .before .before .before .before .decl3 .given .1)
 
 returns-4 : tie.Need-returns-4
-returns-4 c = let s = c .before .before .before .before .before .before .before .before in let d = subst (DeclIn (s .args .text .now)) (c .before .before .before .before .decl4 .given .1) (s .pre .1) in λ ns m. rw (c .plain-row .ensures, c .before .ref-row3 .ensures ns m (d .1 .small), c .before .before .spot-of2 .ensures, c .before .before .before .before .decl4 .given .1)
+returns-4 c = let s = c .before .before .before .before .before .before .before .before in let d = subst (DeclIn (s .args .text .now)) (c .before .before .before .before .decl4 .given .1) (s .pre .1) in λ ns m. rw (c .plain-row .ensures, c .before .ref-row3 .ensures .1 ns m (d .1 .small), c .before .before .spot-of2 .ensures, c .before .before .before .before .decl4 .given .1)
 
 returns-5 : tie.Need-returns-5
 returns-5 c = λ ns m. rw (c .attr-row .ensures, c .before .before .decl5 .given .1)

@@ -17,7 +17,7 @@ ref-row-requires c κs = search needs
 
 returns : tie.Need-returns
 unfolding part
-returns c = c .ref-row .ensures
+returns c = c .ref-row .ensures .1
 
 pub meta-row-spec : {M : Type 1} → statement M
 meta-row-spec =

@@ -4,7 +4,7 @@ use Rattle.form.specs.Walks.{membersLeft}
 use Rattle.form.proofs.Steps.{tour-shrinks}
 use Rattle.asking.specs.References.{firstMisnamed, misnamedIn}
 use Rattle.asking.specs.declared.Asks.the-variants.{Member}
-use Rattle.asking.proofs.RefLaws.{member-wrong, member-right, members-done, members-none, whole-walk}
+use Rattle.asking.proofs.RefLaws.{member-wrong, member-right, members-done, members-none, walk-starts, walk-said}
 use borrow.Author.Needs.{needs}
 use Rattle.asking.proofs.refs.first_misnamed_member.Statement.{statement}
 use Rattle.asking.proofs.refs.first_misnamed_member.Tie as tie
@@ -33,7 +33,8 @@ misnames-requires c κs = search needs
 returns : tie.Need-returns Inv-loop μ-loop
 returns c = let q = c .before .before .before .before .before .before in let p = q .before .before .before in let s = p .before in let a = s .before .before .before .before .args in
     let e = sym (q .tour-step .ensures) ∙ c .before .before .before .before .m .given .1 in
-    λ ns numbers m l t. member-wrong (misnamedIn Member (a .map .now) (a .metas .now) (a .n)) (a .text .now) (p .loop .tour) _ _ e (sym (c .before .misnames .ensures .0) ∙ c .if2 .taken) ∙ p .loop .inv ∙ whole-walk (a .text .now) (a .members .at) (s .tour-of .result) (s .tour-of .ensures) (a .map .now) (a .metas .now) (a .n) ns numbers m l t
+    let x = member-wrong (misnamedIn Member (a .map .now) (a .metas .now) (a .n)) (a .text .now) (p .loop .tour) _ _ e (sym (c .before .misnames .ensures .0) ∙ c .if2 .taken) ∙ p .loop .inv ∙ walk-starts (a .text .now) (a .members .at) (s .tour-of .result) (s .tour-of .ensures) (misnamedIn Member (a .map .now) (a .metas .now) (a .n)) in
+    (x, λ ns numbers m l t. x ∙ walk-said (a .text .now) (a .members .at) (a .map .now) (a .metas .now) (a .n) ns numbers m l t)
 
 loop-less : tie.Need-loop-less Inv-loop μ-loop
 loop-less c = let q = c .before .before .before .before .before .before in let p = q .before .before .before in let a = p .before .before .before .before .before .args in tour-shrinks (a .text .now) (p .loop .tour) _ _ (sym (q .tour-step .ensures) ∙ c .before .before .before .before .m .given .1)
@@ -47,11 +48,13 @@ enum-told c = search needs
 
 returns-2 : tie.Need-returns-2 Inv-loop μ-loop
 returns-2 c = let q = c .before .before in let p = q .before .before .before in let s = p .before in let a = s .before .before .before .before .args in
-    λ ns numbers m l t. members-done (misnamedIn Member (a .map .now) (a .metas .now) (a .n)) (a .text .now) (p .loop .tour) (sym (q .tour-step .ensures) ∙ c .enum-told .given .1) ∙ p .loop .inv ∙ whole-walk (a .text .now) (a .members .at) (s .tour-of .result) (s .tour-of .ensures) (a .map .now) (a .metas .now) (a .n) ns numbers m l t
+    let x = members-done (misnamedIn Member (a .map .now) (a .metas .now) (a .n)) (a .text .now) (p .loop .tour) (sym (q .tour-step .ensures) ∙ c .enum-told .given .1) ∙ p .loop .inv ∙ walk-starts (a .text .now) (a .members .at) (s .tour-of .result) (s .tour-of .ensures) (misnamedIn Member (a .map .now) (a .metas .now) (a .n)) in
+    (x, λ ns numbers m l t. x ∙ walk-said (a .text .now) (a .members .at) (a .map .now) (a .metas .now) (a .n) ns numbers m l t)
 
 returns-3 : tie.Need-returns-3 Inv-loop μ-loop
 returns-3 c = let p = c .before .before in let s = p .before in let a = s .before .before .before .before .args in
-    λ ns numbers m l t. members-none (misnamedIn Member (a .map .now) (a .metas .now) (a .n)) (a .text .now) (p .loop .tour) (c .if1 .left) ∙ p .loop .inv ∙ whole-walk (a .text .now) (a .members .at) (s .tour-of .result) (s .tour-of .ensures) (a .map .now) (a .metas .now) (a .n) ns numbers m l t
+    let x = members-none (misnamedIn Member (a .map .now) (a .metas .now) (a .n)) (a .text .now) (p .loop .tour) (c .if1 .left) ∙ p .loop .inv ∙ walk-starts (a .text .now) (a .members .at) (s .tour-of .result) (s .tour-of .ensures) (misnamedIn Member (a .map .now) (a .metas .now) (a .n)) in
+    (x, λ ns numbers m l t. x ∙ walk-said (a .text .now) (a .members .at) (a .map .now) (a .metas .now) (a .n) ns numbers m l t)
 
 pub first-misnamed-member-spec : {M : Type 1} → statement M
 first-misnamed-member-spec =
