@@ -4,10 +4,10 @@ mod lent;
 mod outputs;
 mod slots;
 
+use clearing::clear_bytes;
 use ground::Place;
 use ground::Refusal;
 use lent::all_trits;
-use lent::clear;
 use loadlist::Listed;
 use loadlist::Ran;
 use loadlist::checking::check;
@@ -63,7 +63,7 @@ fn run_in(list: &[u8], ins: &[u8], outs: &mut [u8], work: &mut [u8]) -> Ran
     requires { ⌜ length (now work) ≡ 8192 ⌝ }
     ensures { λ r. ⌜ made r (now (outs .exit)) (now (work .exit)) ≡ ranFrom (badRecord (now (list .entry))) (now (list .entry)) (now (ins .entry)) (now (outs .entry)) (now (work .entry)) ⌝ }
 {
-    clear(work);
+    clear_bytes(work);
     let listed = check(list);
     match listed {
         Listed::Good { inputs, outputs } => run_good(list, ins, outs, work, inputs, outputs),

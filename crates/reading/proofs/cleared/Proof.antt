@@ -6,8 +6,8 @@ use Rattle.reading.proofs.cleared.Statement.{statement}
 use Rattle.reading.proofs.cleared.Tie as tie
 use Rattle.reading.proofs.cleared.Reads as reads
 use Rattle.reading.proofs.cleared.Lts as lts
-use Rattle.reading.proofs.clearing.clear_bytes.Reads as clear-bytes-reads
-use Rattle.reading.proofs.clearing.clear_words.Reads as clear-words-reads
+use Rattle.clearing.proofs.clear_bytes.Reads as clear-bytes-reads
+use Rattle.clearing.proofs.clear_words.Reads as clear-words-reads
 
 -- src/lib.rt:61:27
 enum-told : tie.Need-enum-told

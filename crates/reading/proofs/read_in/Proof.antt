@@ -6,8 +6,8 @@ use Rattle.reading.proofs.read_in.Statement.{statement}
 use Rattle.reading.proofs.read_in.Tie as tie
 use Rattle.reading.proofs.read_in.Reads as reads
 use Rattle.reading.proofs.read_in.Lts as lts
-use Rattle.reading.proofs.clearing.clear_bytes.Reads as clear-bytes-reads
-use Rattle.reading.proofs.clearing.clear_words.Reads as clear-words-reads
+use Rattle.clearing.proofs.clear_bytes.Reads as clear-bytes-reads
+use Rattle.clearing.proofs.clear_words.Reads as clear-words-reads
 use Rattle.reading.proofs.read_blank.Reads as read-blank-reads
 
 -- src/lib.rt:103:5

@@ -6,8 +6,8 @@ use Rattle.running.proofs.Ways.{bad-way, good-way}
 use Rattle.running.proofs.run_in.Statement.{statement}
 use Rattle.running.proofs.run_in.Tie as tie
 
-clear-requires : tie.Need-clear-requires
-clear-requires c κs = search needs
+clear-bytes-requires : tie.Need-clear-bytes-requires
+clear-bytes-requires c κs = search needs
 
 check-requires : tie.Need-check-requires
 check-requires c κs = search needs
@@ -20,7 +20,7 @@ run-good-requires c κs =
     let l = c .before .before .before in
     let w = l .before .before .before .before .before in
     let s = w .before .before .before .before .before .before in
-    (w .clear .ensures ∙ ap zeros (s .pre), sym (l .listed .given .1) ∙ l .before .before .check .ensures)
+    (w .clear-bytes .ensures ∙ ap zeros (s .pre), sym (l .listed .given .1) ∙ l .before .before .check .ensures)
 
 enum-known-listed-2 : tie.Need-enum-known-listed-2
 enum-known-listed-2 c = search needs
@@ -41,7 +41,7 @@ returns c =
     let s = w .before .before .before .before .before .before in
     let a = s .args in
     let g = good-list (a .list .now) _ _ (sym (l .listed .given .1) ∙ l .before .before .check .ensures) in
-    good-way (a .list .now) (a .ins .now) (a .outs .now) (a .work .now) (s .pre) (w .clear .ensures ∙ ap zeros (s .pre)) (g .all) (c .before .before .before .before .run-good .ensures)
+    good-way (a .list .now) (a .ins .now) (a .outs .now) (a .work .now) (s .pre) (w .clear-bytes .ensures ∙ ap zeros (s .pre)) (g .all) (c .before .before .before .before .run-good .ensures)
 
 same-length-3 : tie.Need-same-length-3
 same-length-3 c = search needs
@@ -53,13 +53,13 @@ returns-2 c =
     let s = w .before .before .before .before .before .before in
     let a = s .args in
     let e = bad-list (a .list .now) _ (sym (l .listed2 .given .1) ∙ l .before .before .check .ensures) in
-    rw (c .refused .ensures) (bad-way (a .list .now) (a .ins .now) (a .outs .now) (a .work .now) (s .pre) (w .clear .ensures) e)
+    rw (c .refused .ensures) (bad-way (a .list .now) (a .ins .now) (a .outs .now) (a .work .now) (s .pre) (w .clear-bytes .ensures) e)
 
 pub run-in-spec : {M : Type 1} → statement M
 run-in-spec =
     tie.close
     (tie.spec
-    clear-requires
+    clear-bytes-requires
     check-requires
     enum-known-listed
     run-good-requires

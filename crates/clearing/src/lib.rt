@@ -1,9 +1,10 @@
-// Lent words and bytes, cleared.
+// Lent words and bytes, cleared. It promises that a slice is zero afterwards, at every place and nowhere else. Reading and running stand
+// above it.
 ghost use mathlib.Core.Path.{_≡_};
 ghost use lib.ListN.{length};
 ghost use Rattle.ground.specs.Regions.{zeros};
 
-pub(crate) fn clear_words(words: &mut [u32])
+pub fn clear_words(words: &mut [u32])
     ensures { λ _. ⌜ now (words .exit) ≡ zeros (length (now (words .entry))) ⌝ }
 {
     let mut i: usize = 0;
@@ -13,7 +14,7 @@ pub(crate) fn clear_words(words: &mut [u32])
     }
 }
 
-pub(crate) fn clear_bytes(bytes: &mut [u8])
+pub fn clear_bytes(bytes: &mut [u8])
     ensures { λ _. ⌜ now (bytes .exit) ≡ zeros (length (now (bytes .entry))) ⌝ }
 {
     let mut i: usize = 0;
