@@ -4,3 +4,4 @@ pub mod Forms
 pub mod Numbers
 pub mod Operands
 pub mod Names
+pub mod Said
