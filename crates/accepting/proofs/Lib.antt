@@ -5,3 +5,5 @@ pub mod Numbers
 pub mod Operands
 pub mod Names
 pub mod Said
+pub mod Sound
+pub mod Accepted
