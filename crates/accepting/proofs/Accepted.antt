@@ -37,7 +37,7 @@ use Rattle.accepting.proofs.Bytes.{sound-bytes}
 use Rattle.accepting.proofs.Forms.{meant}
 use Rattle.accepting.proofs.Numbers.{width-rowed}
 use Rattle.accepting.proofs.Names.{names-rowed}
-use Rattle.accepting.proofs.Said.{said-sound}
+use Rattle.accepting.proofs.Said.{no-facts, said-sound}
 use Rattle.accepting.proofs.Sound.{passed, Sound, nothing-sound, sound-more}
 
 -- ROWS FOR NUMBERS change no width and no limit
@@ -83,10 +83,6 @@ module _ (ns : List ℕ) where
         cellStrings = every-rowed (λ (c : Cell). shortString (c .name)) cs (r .cellStrings);
         strings = omega (arith, ap length (strings-rowed N), r .strings);
       }
-
-no-facts : allOf [] ≡ true
-unfolding allOf
-no-facts = refl
 
 -- WHERE EVERY PIECE RESOLVES
 pub sound-valid : (so : Sofar) → Sound so → firstUnresolved (so .cellNumbers) (widthsOf (so .netlist .cells)) (so .pieces) ≡ none → valid (netlistOf so) ≡ true

@@ -7,3 +7,4 @@ pub mod Names
 pub mod Said
 pub mod Sound
 pub mod Accepted
+pub mod Good

@@ -68,7 +68,7 @@ SaidSound so (metadata m) = MetaSaid (kindsOf so) m
 SaidSound so (pad i) = every isByte (i .name) ≡ true
 SaidSound so (cell c a b d ps) = CellSaid (length (so .netlist .metas)) c a b d ps
 
-no-facts : allOf [] ≡ true
+pub no-facts : allOf [] ≡ true
 unfolding allOf
 no-facts = refl
 

@@ -28,7 +28,7 @@ use Rattle.noting.proofs.Passing.{not-false}
 use Rattle.resolving.proofs.Declared.{both-resolved}
 use Rattle.accepting.proofs.Numbers.{width-rowed}
 use Rattle.accepting.proofs.Names.{distinct-last, names-distinct, names-rowed}
-use Rattle.accepting.proofs.Said.{kindsOf, MetaSaid, CellSaid, SaidSound}
+use Rattle.accepting.proofs.Said.{no-facts, kindsOf, MetaSaid, CellSaid, SaidSound}
 
 -- THE RULES that a declaration passes
 pub record Passed (text : List ℕ) (so : Sofar) (d : Declared) (s : Said) : Type 0 where
@@ -76,10 +76,6 @@ pub record Sound (so : Sofar) : Type 0 where
 pub nothing-sound : Sound nothing
 unfolding roomy allOf every total joined metasSound distinct namesAs
 nothing-sound = record { room = refl; metas = refl; ios = refl; ioNamed = refl; cells = λ ns ws e. refl; inputs = refl; outputs = refl }
-
-no-facts : allOf [] ≡ true
-unfolding allOf
-no-facts = refl
 
 -- METADATA
 metas-last : (kinds : List ℕ) (ms : List Meta) (m : Meta) → metasSound kinds ms ≡ true → metaSound (kinds ++ map (λ (m : Meta). m .kind) ms) m ≡ true → metasSound kinds (ms ++ (m ∷ [])) ≡ true
