@@ -1,30 +1,28 @@
 -- WHAT READING ACCEPTS IS VALID: the netlist that a text says keeps every rule of 9 to 14, Text's number ranges and the limits of Room,
 -- with operands as longest runs.
-use mathlib.Core.Path.{_≡_, refl, sym, ap, ap₂, subst, _∙_}
-use mathlib.Core.Bool.{Bool, true, false}
+use mathlib.Core.Path.{_≡_, refl, ap, ap₂, subst, _∙_}
+use mathlib.Core.Bool.{Bool, true}
 use mathlib.Core.List.{List, [], _∷_, _++_, map}
 use mathlib.Core.Option.{Option, none, some}
-use Prim.Native.Nat.{ℕ, zero, suc, _+_, _<_, _≤_}
+use Prim.Native.Nat.{ℕ, zero, suc, _+_}
 use native.Mathlib.Omega.{arith}
 use lib.Dec.{eqb}
 use lib.ListN.{length}
 use Rattle.ground.specs.Choice.{pick}
-use Rattle.ground.specs.Lists.{every, allOf, total, joined}
+use Rattle.ground.specs.Lists.{every, total, joined}
 use Rattle.ground.specs.declared.Place.{Place}
 use Rattle.ground.specs.declared.Refusal.{Refusal}
 use Rattle.ground.proofs.Bools.{facts, every-first, every-more}
 use Rattle.kinds.specs.Kinds.{inputKind, outputKind}
 use Rattle.lexis.specs.Whole.{wholeOf}
-use Rattle.lexis.specs.declared.Reader.{Reader}
 use Rattle.lexis.specs.declared.Whole.{Whole}
 use Rattle.lexis.specs.declared.Whole.the-variants as whole
 use Rattle.form.specs.Forms.{formAt}
-use Rattle.form.specs.declared.Declared.{Declared}
 use Rattle.form.specs.declared.Form.{Form}
 use Rattle.form.specs.declared.Form.the-variants as form
-use Rattle.netlist.specs.Netlist.{Run, Io, Cell, Netlist, runsOf, stringsOf, metaStrings}
+use Rattle.netlist.specs.Netlist.{Io, Cell, Netlist, runsOf, stringsOf, metaStrings}
 use Rattle.netlist.specs.Rules.{distinct, namesAs, outputBits, shortString, roomy, isByte, cellSound, widthsOf, valid}
-use Rattle.netlist.proofs.Laying.{Roomy, roomy-is}
+use Rattle.netlist.proofs.Laying.{roomy-is}
 use Rattle.saying.specs.Values.{rowRun, rowCell}
 use Rattle.saying.specs.Pieces.{firstUnresolved}
 use Rattle.saying.specs.Rules.{Sofar, nothing, saidBy, added, ruledOut}

@@ -1,23 +1,21 @@
 -- Document 01, Text: the bytes of a text that is UTF-8 are bytes, and so are those that a string of it means; the characters of a
 -- constant are trits.
-use mathlib.Core.Path.{_≡_, refl, sym, ap, _∙_}
+use mathlib.Core.Path.{_≡_, refl, sym}
 use mathlib.Core.Bool.{Bool, true, false, not, _&&_, _||_}
 use mathlib.Core.List.{List, [], _∷_, map}
 use mathlib.Core.Option.{Option, none, some}
 use Prim.Native.Nat.{ℕ, zero, suc, _+_, _-_, _*_, _<_, _≤_}
 use native.Mathlib.Omega.{arith}
-use lib.Dec.{T, ltb, leb, eqb}
+use lib.Dec.{T, ltb, eqb}
 use lib.ListN.{length, take, drop, getD}
 use borrow.Author.Tests.{ltb-true, ltb-false, lt-ltb}
-use Rattle.ground.specs.Choice.{pick}
 use Rattle.ground.specs.Lists.{every}
 use Rattle.ground.specs.Regions.{zeros, part}
-use Rattle.ground.proofs.Bools.{bool-cases, never-both, and-true, every-first, every-more, every-at}
+use Rattle.ground.proofs.Bools.{bool-cases, and-true, every-first, every-more, every-at}
 use Rattle.ground.proofs.Tables.{at}
-use Rattle.lexis.specs.Bytes.{Range, inRange, within, classFrom, classOf, isConstant, isHex, isRaw, hexOf, tritOf}
+use Rattle.lexis.specs.Bytes.{Range, inRange, classFrom, classOf, isConstant, isHex, isRaw, hexOf, tritOf}
 use Rattle.lexis.specs.Pieces.{spanEnd, Str, whole, broken, prefixed, stringFrom, bytesIn, decoded}
 use Rattle.lexis.specs.Whole.{Sequence, sequences, tailOf, lacksPast, beganAt, badFrom, badAt, ending, unsound, wholeOf}
-use Rattle.lexis.specs.declared.Whole.{Whole}
 use Rattle.lexis.specs.declared.Whole.the-variants as whole
 use Rattle.lexis.proofs.Bytes.{within-true}
 use Rattle.lexis.proofs.Strings.{hex-low, hex-high, hex-inside}

@@ -1,7 +1,7 @@
 -- What a declaration that the form takes means: numbers of 32 bits, constants of `0 1 X`, a scope for every ident, a keyword of the
 -- table. What its strings, indices and widths are stands in noting/proofs/Forming.
 use mathlib.Core.Path.{_≡_, refl, subst}
-use mathlib.Core.Bool.{Bool, true, false, _&&_, _||_}
+use mathlib.Core.Bool.{Bool, true, false}
 use mathlib.Core.List.{List, [], _∷_}
 use Prim.Native.Nat.{ℕ, zero, suc, _+_, _<_, _≤_}
 use Prim.Native.String.{String}
@@ -17,14 +17,14 @@ use Rattle.ground.proofs.Bools.{bool-cases, never-both}
 use Rattle.kinds.specs.Kinds.{kindAt, isKind, keywords}
 use Rattle.kinds.proofs.Widths.{picked}
 use Rattle.lexis.specs.Bytes.{isConstant}
-use Rattle.lexis.specs.Tokens.{tokenAt, insideAt, lineEnd, textEnd, word, constant, number, meta, io, cell, string}
+use Rattle.lexis.specs.Tokens.{tokenAt, insideAt, lineEnd, textEnd, word, constant, number, meta, io, string}
 use Rattle.lexis.specs.declared.Reader.{Reader}
 use Rattle.lexis.specs.declared.Token.{Token}
 use Rattle.lexis.specs.declared.Step.{Step}
 use Rattle.lexis.specs.declared.Step.the-variants as step
 use Rattle.form.specs.Words.{isSort, isMark, isWord, letters, numbered, kindOf}
-use Rattle.form.specs.Parts.{str, nextMember, memberedOf, membersFrom, membersAt, setAt}
-use Rattle.form.specs.Forms.{only, after, afterOperand, afterRef, afterSet, afterPoint, markAt, ended, setForm, insideNumber, toPoint, closedPoint, pointAt, sourceForm, linkOf, linkFrom, linkAt, optionAt, isLabel, labelOf, scopeForm, identForm, isPayload, payloadOf, attrForm, metaForm, ioForm, operandIf, metaIf, wiringForm, namedForm, cellForm, bodyForm, isOpening, openForm, formAt}
+use Rattle.form.specs.Parts.{str, nextMember, membersFrom, membersAt, setAt}
+use Rattle.form.specs.Forms.{only, after, afterOperand, afterRef, afterSet, afterPoint, markAt, ended, setForm, toPoint, closedPoint, pointAt, sourceForm, linkOf, linkFrom, linkAt, optionAt, isLabel, labelOf, scopeForm, identForm, isPayload, payloadOf, attrForm, metaForm, ioForm, operandIf, metaIf, wiringForm, namedForm, cellForm, bodyForm, isOpening, openForm, formAt}
 use Rattle.form.specs.declared.Str.{Str}
 use Rattle.form.specs.declared.Ref.{Ref}
 use Rattle.form.specs.declared.Operand.{Operand}
@@ -40,8 +40,6 @@ use Rattle.form.specs.declared.Form.{Form}
 use Rattle.form.specs.declared.Form.the-variants as form
 use Rattle.form.specs.declared.Measured.{Measured}
 use Rattle.form.specs.declared.Measured.the-variants as measured
-use Rattle.form.specs.declared.Membered.{Membered}
-use Rattle.form.specs.declared.Membered.the-variants as membered
 use Rattle.form.specs.declared.Taken.{Taken}
 use Rattle.form.specs.declared.Taken.the-variants as taken
 use Rattle.form.specs.declared.Pointed.{Pointed}

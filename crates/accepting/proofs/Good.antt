@@ -1,30 +1,27 @@
 -- THE TABLES THAT AN ACCEPTED READING LEAVES ARE GOOD, and show the netlist that the text says.
-use mathlib.Core.Path.{_≡_, refl, sym, ap, _∙_}
-use mathlib.Core.Bool.{Bool, true, false, _||_}
-use mathlib.Core.List.{List, [], _∷_, _++_}
-use Prim.Native.Nat.{ℕ, _+_, _<_, _≤_}
+use mathlib.Core.Path.{_≡_, refl, ap, _∙_}
+use mathlib.Core.Bool.{true, false, _||_}
+use mathlib.Core.List.{List, _++_}
+use Prim.Native.Nat.{ℕ, _≤_}
 use native.Mathlib.Omega.{arith}
 use lib.Dec.{ltb}
 use lib.ListN.{length, drop, length-append}
 use borrow.Author.Tests.{le-ltb}
-use Rattle.ground.specs.Choice.{pick}
 use Rattle.ground.specs.Refusals.{at, refusal}
 use Rattle.ground.specs.Regions.{over}
 use Rattle.ground.specs.declared.Refusal.{Refusal}
 use Rattle.ground.proofs.Bools.{bool-cases}
 use Rattle.netlist.specs.Netlist.{Netlist}
 use Rattle.netlist.specs.Rules.{valid}
-use Rattle.netlist.specs.Tables.{Tables, layout, rowsOf, bitsOf, rowsLength, stringsLength, bitsLength, tablesIn}
+use Rattle.netlist.specs.Tables.{Tables, layout, rowsOf, bitsOf, rowsLength, stringsLength, bitsLength}
 use Rattle.netlist.specs.View.{view}
 use Rattle.netlist.specs.Good.{short, checkOf, netlistIn}
-use Rattle.netlist.specs.declared.Checked.{Checked}
 use Rattle.netlist.specs.declared.Checked.the-variants as checked
 use Rattle.netlist.proofs.Laying.{Long, view-layout, good-layout}
 use Rattle.netlist.proofs.Lengths.{layout-long}
 use Rattle.netlist.proofs.Slices.{tables-back}
 use Rattle.declaring.specs.Reading.{Reading, says, refused, reading}
-use Rattle.reading.specs.Outcome.{Outcome, made, left, readOf, workLength}
-use Rattle.reading.specs.declared.Read.{Read}
+use Rattle.reading.specs.Outcome.{Outcome, left, readOf, workLength}
 use Rattle.reading.specs.declared.Read.the-variants as read
 use Rattle.accepting.proofs.Accepted.{accepted-valid}
 

@@ -8,3 +8,4 @@ pub mod Said
 pub mod Sound
 pub mod Accepted
 pub mod Good
+pub mod Printed

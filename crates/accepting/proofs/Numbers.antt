@@ -2,14 +2,14 @@
 use mathlib.Core.Path.{_≡_, refl, sym, ap, _∙_}
 use mathlib.Core.Bool.{Bool, true, false, _&&_}
 use mathlib.Core.List.{List, [], _∷_, map}
-use Prim.Native.Nat.{ℕ, zero, suc, _+_, _-_, _<_, _≤_}
+use Prim.Native.Nat.{ℕ, _+_, _-_, _≤_}
 use native.Mathlib.Omega.{arith}
-use lib.Dec.{eqb, leb, ltb}
-use lib.ListN.{length, getD}
+use lib.Dec.{eqb, leb}
+use lib.ListN.{length}
 use borrow.Author.Tests.{eqb-true, eqb-false, eq-eqb, ne-eqb, leb-true}
 use Rattle.ground.specs.Lists.{every, total}
 use Rattle.ground.proofs.Bools.{bool-cases, never-both, and-true, true-and, every-first}
-use Rattle.netlist.specs.Netlist.{Run, const, piece, runWidth, operandWidth}
+use Rattle.netlist.specs.Netlist.{Run, const, piece, operandWidth}
 use Rattle.netlist.specs.Runs.{joins, longest}
 use Rattle.netlist.specs.Rules.{isTrit, resolves, runSound}
 use Rattle.saying.specs.Values.{rowFrom, rowOf, rowRun}

@@ -1,18 +1,17 @@
 -- The runs of an operand whose pieces resolve fit, and are longest.
-use mathlib.Core.Path.{_≡_, refl, sym, ap, subst, _∙_}
-use mathlib.Core.Bool.{Bool, true, false, _&&_, _||_}
-use mathlib.Core.List.{List, [], _∷_, _++_, map}
+use mathlib.Core.Path.{_≡_, refl, ap}
+use mathlib.Core.Bool.{Bool, true, false, _&&_}
+use mathlib.Core.List.{List, [], _∷_, map}
 use mathlib.Core.Option.{Option, none, some}
-use Prim.Native.Nat.{ℕ, zero, suc, _+_, _-_, _<_, _≤_}
+use Prim.Native.Nat.{ℕ, zero, suc, _+_, _-_, _≤_}
 use native.Mathlib.Omega.{arith}
 use lib.Dec.{eqb, leb, ltb}
 use lib.ListN.{length, getD}
 use borrow.Author.Tests.{eqb-true, leb-true, le-leb}
-use Rattle.ground.specs.Choice.{pick}
 use Rattle.ground.specs.Lists.{every, joined}
 use Rattle.ground.specs.Regions.{part}
 use Rattle.ground.specs.declared.Place.{Place}
-use Rattle.ground.proofs.Bools.{bool-cases, never-both, and-true, true-and, every-first, every-more}
+use Rattle.ground.proofs.Bools.{bool-cases, and-true, true-and, every-first, every-more}
 use Rattle.lexis.specs.Bytes.{isConstant}
 use Rattle.lexis.specs.Tokens.{tokenAt, insideAt, constant}
 use Rattle.lexis.specs.declared.Reader.{Reader}
@@ -20,18 +19,17 @@ use Rattle.lexis.specs.declared.Token.{Token}
 use Rattle.lexis.specs.declared.Step.{Step}
 use Rattle.lexis.specs.declared.Step.the-variants as step
 use Rattle.form.specs.Words.{isSort}
-use Rattle.form.specs.Parts.{PartAt, isPart, baseOf, partOf, partedOf, nextPart, partsFrom, partsOf, partsAt}
-use Rattle.form.specs.declared.Piece.{Piece}
+use Rattle.form.specs.Parts.{PartAt, isPart, baseOf, partOf, nextPart, partsFrom, partsOf, partsAt}
 use Rattle.form.specs.declared.Base.{Base}
 use Rattle.form.specs.declared.Base.the-variants as base
 use Rattle.form.specs.declared.Part.{Part}
 use Rattle.form.specs.declared.Part.the-variants as part
 use Rattle.form.specs.declared.Operand.{Operand}
 use Rattle.netlist.specs.Netlist.{Run, const, piece}
-use Rattle.netlist.specs.Runs.{Bit, known, bit, falling, knownBits, runsWith, cut, joins, longest}
+use Rattle.netlist.specs.Runs.{Bit, known, bit, falling, knownBits, runsWith, cut, longest}
 use Rattle.netlist.specs.Rules.{isByte, isTrit, resolves, operandSound}
 use Rattle.saying.specs.Values.{rowOf, rowRun, tritsIn, baseBits, copies, partBits, operandRuns}
-use Rattle.saying.specs.Pieces.{PieceAt, basePieces, baseIn, operandPieces, unresolved, firstUnresolved}
+use Rattle.saying.specs.Pieces.{basePieces, baseIn, operandPieces, firstUnresolved}
 use Rattle.saying.proofs.Tokens.{Nothing}
 use Rattle.resolving.proofs.Declared.{every-append, both-resolved}
 use Rattle.accepting.proofs.Bytes.{constant-trits}

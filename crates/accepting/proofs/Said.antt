@@ -1,20 +1,19 @@
 -- What a declaration that passes rule 10 says is sound: what stands in rules 9 and 11 to 13 is asked besides.
 use mathlib.Core.Path.{_≡_, refl, sym, ap, _∙_}
-use mathlib.Core.Bool.{Bool, true, false, not, _&&_, _||_}
+use mathlib.Core.Bool.{Bool, true, false, _&&_}
 use mathlib.Core.List.{List, [], _∷_, _++_, map}
 use mathlib.Core.Option.{Option, none, some}
-use Prim.Native.Nat.{ℕ, zero, suc, _+_, _-_, _<_, _≤_}
+use Prim.Native.Nat.{ℕ, _-_, _<_}
 use native.Mathlib.Omega.{arith}
-use lib.Dec.{leb, ltb, eqb}
+use lib.Dec.{leb, eqb}
 use lib.ListN.{length, getD}
 use borrow.Author.Tests.{lt-ltb, le-leb}
-use Rattle.ground.specs.Choice.{pick}
 use Rattle.ground.specs.Lists.{every, allOf}
 use Rattle.ground.specs.declared.Place.{Place}
-use Rattle.ground.proofs.Bools.{bool-cases, never-both, and-true, and-false, or-right, facts, every-first, every-more}
+use Rattle.ground.proofs.Bools.{bool-cases, and-true, and-false, or-right, facts, every-first, every-more}
 use Rattle.kinds.specs.Kinds.{kindAt, isKind}
 use Rattle.lexis.specs.Pieces.{decoded}
-use Rattle.form.specs.Parts.{membersAt, partsAt}
+use Rattle.form.specs.Parts.{membersAt}
 use Rattle.form.specs.declared.Ref.{Ref}
 use Rattle.form.specs.declared.Range.{Range}
 use Rattle.form.specs.declared.Operand.{Operand}
@@ -25,9 +24,9 @@ use Rattle.form.specs.declared.Payload.{Payload}
 use Rattle.form.specs.declared.Payload.the-variants as payload
 use Rattle.form.specs.declared.Decl.{Decl}
 use Rattle.form.specs.declared.Decl.the-variants as decl
-use Rattle.netlist.specs.Netlist.{Run, Meta, Cell, operandWidth, identMeta, isScope}
-use Rattle.netlist.specs.Rules.{refers, mayRefer, isMember, isSource, anyKind, references, ranges, shape, isByte, isTrit, isNumber, unless, runless, operandSound}
-use Rattle.saying.specs.Values.{rowOf, refRow, rowRun, tritsIn, nameIn, operandRuns, meta, sourceOf, scopeOf, attrOf}
+use Rattle.netlist.specs.Netlist.{Meta, Cell, operandWidth, isScope}
+use Rattle.netlist.specs.Rules.{refers, mayRefer, isMember, isSource, anyKind, references, ranges, shape, isByte, isTrit, unless, runless, operandSound}
+use Rattle.saying.specs.Values.{refRow, rowRun, tritsIn, operandRuns, meta, sourceOf, scopeOf, attrOf}
 use Rattle.saying.specs.Pieces.{PieceAt, operandPieces, firstUnresolved}
 use Rattle.saying.specs.Rules.{Sofar, Said, metadata, pad, cell, cellOf, piecesOf, saidBy, Asked, askedOf, misnamed, firstMisnamed}
 use Rattle.noting.specs.Formed.{OperandIn, WiringIn, DeclIn}

@@ -1,11 +1,11 @@
 -- What is said stays sound, declaration after declaration; and where every piece resolves, the netlist is valid.
-use mathlib.Core.Path.{_≡_, refl, sym, ap, _∙_}
-use mathlib.Core.Bool.{Bool, true, false, not, _&&_, _||_}
+use mathlib.Core.Path.{_≡_, refl}
+use mathlib.Core.Bool.{Bool, true, false, not, _&&_}
 use mathlib.Core.List.{List, [], _∷_, _++_, map, append-assoc, append-nil}
 use mathlib.Core.Option.{Option, none, some}
-use Prim.Native.Nat.{ℕ, zero, suc, _+_, _<_, _≤_}
+use Prim.Native.Nat.{ℕ, _≤_}
 use native.Mathlib.Omega.{arith}
-use lib.Dec.{leb, eqb}
+use lib.Dec.{leb}
 use lib.ListN.{length}
 use borrow.Author.Tests.{leb-true, le-leb}
 use Rattle.ground.specs.Choice.{pick}
@@ -13,21 +13,19 @@ use Rattle.ground.specs.Lists.{every, allOf, total, joined}
 use Rattle.ground.specs.Refusals.{refusal}
 use Rattle.ground.specs.declared.Place.{Place}
 use Rattle.ground.specs.declared.Refusal.{Refusal}
-use Rattle.ground.proofs.Bools.{bool-cases, never-both, and-true, and-false, or-false, not-of-false, fact, facts, every-first, every-more}
+use Rattle.ground.proofs.Bools.{bool-cases, never-both, and-false, or-false, not-of-false, fact, facts, every-first, every-more}
 use Rattle.kinds.specs.Kinds.{kindAt, inputKind, outputKind, wide}
 use Rattle.form.specs.declared.Declared.{Declared}
-use Rattle.netlist.specs.Netlist.{Run, Meta, Io, Cell, Netlist, operandWidth, runsOf, stringsOf, metaStrings}
-use Rattle.netlist.specs.Rules.{taken, distinct, ioNames, namesAs, complete, attrWidth, cellWidth, outputBits, shortString, roomy, isByte, shape, ranges, references, metaSound, metasSound, ioSound, unless, runless, operandSound, cellSound, widthsOf, isEmpty, valid}
-use Rattle.netlist.proofs.Laying.{Roomy, roomy-is}
+use Rattle.netlist.specs.Netlist.{Meta, Io, Cell, operandWidth}
+use Rattle.netlist.specs.Rules.{taken, distinct, ioNames, namesAs, complete, attrWidth, cellWidth, roomy, isByte, metaSound, metasSound, ioSound, unless, runless, cellSound, isEmpty}
 use Rattle.saying.specs.Values.{rowRun, rowCell}
 use Rattle.saying.specs.Pieces.{PieceAt, firstUnresolved}
-use Rattle.saying.specs.Rules.{Sofar, nothing, Said, metadata, pad, cell, saidBy, added, twice, declares, askedOf, firstMisnamed, incomplete, misfit, cramped, ruled, ruledOn, ruledOut}
+use Rattle.saying.specs.Rules.{Sofar, nothing, Said, metadata, pad, cell, saidBy, added, twice, declares, askedOf, firstMisnamed, incomplete, misfit, cramped, ruled, ruledOut}
 use Rattle.noting.proofs.Growing.{map-last, length-mapped, length-last, every-last}
-use Rattle.noting.proofs.Limits.{is-roomy}
 use Rattle.noting.proofs.Passing.{not-false}
 use Rattle.resolving.proofs.Declared.{both-resolved}
 use Rattle.accepting.proofs.Numbers.{width-rowed}
-use Rattle.accepting.proofs.Names.{distinct-last, names-distinct, names-rowed}
+use Rattle.accepting.proofs.Names.{distinct-last, names-distinct}
 use Rattle.accepting.proofs.Said.{no-facts, kindsOf, MetaSaid, CellSaid, SaidSound}
 
 -- THE RULES that a declaration passes

@@ -1,11 +1,11 @@
 -- What tokens mean. Document 01, Text: "`#` numbers: -2,147,483,648 to 2,147,483,647", held in 32 bits; "Constants are `0 1 X`".
 use mathlib.Core.Path.{_≡_, refl}
-use mathlib.Core.Bool.{Bool, true, false, _&&_, _||_}
+use mathlib.Core.Bool.{Bool, true, false, _||_}
 use mathlib.Core.List.{List, [], _∷_}
-use Prim.Native.Nat.{ℕ, _+_, _-_, _<_, _≤_}
+use Prim.Native.Nat.{ℕ, _+_, _<_, _≤_}
 use native.Mathlib.Omega.{arith}
 use lib.Dec.{ltb, eqb}
-use lib.ListN.{length, drop, getD}
+use lib.ListN.{drop, getD}
 use borrow.Author.Tests.{ltb-true, ltb-false}
 use Rattle.ground.specs.Choice.{pick}
 use Rattle.ground.specs.Lists.{every}
