@@ -1,4 +1,4 @@
--- What a declaration that passes rule 10 says is sound: what stands in rules 9 and 11 to 13 is asked besides.
+-- What a declaration of good form says, where rule 10 passes it: all that its row must keep, but for rules 9 and 11 to 13.
 use mathlib.Core.Path.{_≡_, refl, sym, ap, _∙_}
 use mathlib.Core.Bool.{Bool, true, false, _&&_}
 use mathlib.Core.List.{List, [], _∷_, _++_, map}

@@ -1,4 +1,4 @@
--- What is said stays sound, declaration after declaration; and where every piece resolves, the netlist is valid.
+-- What is said so far stays sound with each declaration that passes rules 9 to 13.
 use mathlib.Core.Path.{_≡_, refl}
 use mathlib.Core.Bool.{Bool, true, false, not, _&&_}
 use mathlib.Core.List.{List, [], _∷_, _++_, map, append-assoc, append-nil}

@@ -1,2 +1,2 @@
-// Accepting: every netlist that reading accepts is valid, so the tables that it lays are good and printing refuses none of them but
-// for room. Nothing runs here. Reading stands below it; nothing stands above.
+// Accepting: every netlist that reading accepts is valid, so the tables that it lays are good, and printing refuses none of them but
+// for room. Nothing runs here. Reading and printing stand below it; nothing stands above.
