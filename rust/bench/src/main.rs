@@ -2,7 +2,6 @@
 
 #![forbid(unsafe_code)]
 
-#[cfg(feature = "read")]
 mod read;
 
 use std::time::{Duration, Instant};
@@ -51,23 +50,12 @@ fn lines() -> Vec<Line> {
         limit,
         text: bench::netlist,
     };
-    let mut lines = vec![
+    vec![
         line("scan", library_scan, reference_scan, Some(1.3)),
         line("scan, one byte a step", library_scan, reference_scan_by_bytes, None),
         line("scan + tokens", library_tokens, reference_tokens, Some(1.3)),
-    ];
-    lines.extend(reading());
-    lines
-}
-
-#[cfg(feature = "read")]
-fn reading() -> Option<Line> {
-    Some(read::line())
-}
-
-#[cfg(not(feature = "read"))]
-fn reading() -> Option<Line> {
-    None
+        read::line(),
+    ]
 }
 
 /// The time of `calls` calls. Called through a pointer that is unknown here, no call can be left out.
@@ -103,9 +91,7 @@ fn only(name: &str, kib: usize, calls: u32) {
         "reference-scan" => (Box::new(reference_scan), bench::netlist),
         "reference-scan-by-bytes" => (Box::new(reference_scan_by_bytes), bench::netlist),
         "reference-tokens" => (Box::new(reference_tokens), bench::netlist),
-        #[cfg(feature = "read")]
         "library-read" => (read::library(), bench::full_netlist),
-        #[cfg(feature = "read")]
         "reference-read" => (read::reference(), bench::full_netlist),
         _ => panic!("no function has the name {name}"),
     };

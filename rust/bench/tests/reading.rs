@@ -2,7 +2,6 @@
 //!
 //! The random texts come from one seed, which is printed. `GRACKLEIVY_SEED=<number>` tries another one.
 
-#![cfg(feature = "read")]
 #![forbid(unsafe_code)]
 
 use bench::{any_netlist, changed, full_netlist, Random};

@@ -3,10 +3,8 @@
 //! The functions of `libgrackleivy.a` ask nothing of their caller but a pointer and a length that belong together, which a slice
 //! always gives. So the functions here are safe for every slice.
 
-#[cfg(feature = "read")]
 mod read;
 
-#[cfg(feature = "read")]
 pub use read::{read, ROWS, STRINGS, TRITS, WORK};
 
 /// Why a text is refused: the number of document 01 and the place, a byte of the text counted from 0.
