@@ -138,9 +138,33 @@ pub fn full_netlist(size: usize, seed: u64) -> Vec<u8> {
     crate::fill_with_comments(text, size)
 }
 
+/// A netlist of exactly `size` bytes that the reader accepts: up to 512 inputs with names of 32 bytes that differ in the last three.
+pub fn alike_netlist(size: usize, _: u64) -> Vec<u8> {
+    let mut text = String::with_capacity(size + 64);
+    for number in 0..512 {
+        let line = format!("%{number}:1 = input \"grader_lane7/weigher/channel_{number:03}\"\n");
+        if text.len() + line.len() + 2 > size {
+            break;
+        }
+        text.push_str(&line);
+    }
+    crate::fill_with_comments(text.into_bytes(), size)
+}
+
 #[cfg(test)]
 mod tests {
     use super::*;
+
+    #[test]
+    fn names_alike_are_accepted() {
+        for (kib, inputs) in [(4, 80), (16, 300), (64, 512)] {
+            let text = alike_netlist(kib << 10, 0);
+            assert_eq!(text.len(), kib << 10);
+            let tables = reference::read(&text).expect("accepted");
+            assert!(tables.rows[2] >= inputs, "{} inputs", tables.rows[2]);
+            assert_eq!(tables.strings.iter().filter(|byte| **byte != 0).count(), 32 * tables.rows[2] as usize);
+        }
+    }
 
     #[test]
     fn accepted_and_near_the_limits() {

@@ -7,7 +7,7 @@ mod full;
 mod netlist;
 
 pub use any::{any_netlist, changed};
-pub use full::full_netlist;
+pub use full::{alike_netlist, full_netlist};
 pub use netlist::netlist;
 
 use netlist::fill_with_comments;

@@ -17,9 +17,26 @@ pub struct Line {
     name: &'static str,
     library: Work,
     plain: Work,
-    /// The library may take this many times the plain one's time.
-    limit: Option<f64>,
+    limit: Limit,
     text: Maker,
+}
+
+/// The library may take so many times the plain one's time: on every text, or on one of 64 KiB.
+#[derive(Clone, Copy)]
+pub enum Limit {
+    None,
+    Always(f64),
+    AtFull(f64),
+}
+
+impl Limit {
+    fn at(self, kib: usize) -> Option<f64> {
+        match self {
+            Limit::Always(limit) => Some(limit),
+            Limit::AtFull(limit) if kib == 64 => Some(limit),
+            _ => None,
+        }
+    }
 }
 
 fn library_scan(text: &[u8]) -> u64 {
@@ -50,12 +67,13 @@ fn lines() -> Vec<Line> {
         limit,
         text: bench::netlist,
     };
-    vec![
-        line("scan", library_scan, reference_scan, Some(1.3)),
-        line("scan, one byte a step", library_scan, reference_scan_by_bytes, None),
-        line("scan + tokens", library_tokens, reference_tokens, Some(1.3)),
-        read::line(),
-    ]
+    let mut lines = vec![
+        line("scan", library_scan, reference_scan, Limit::Always(1.3)),
+        line("scan, one byte a step", library_scan, reference_scan_by_bytes, Limit::None),
+        line("scan + tokens", library_tokens, reference_tokens, Limit::Always(1.3)),
+    ];
+    lines.extend(read::lines());
+    lines
 }
 
 /// The time of `calls` calls. Called through a pointer that is unknown here, no call can be left out.
@@ -93,6 +111,9 @@ fn only(name: &str, kib: usize, calls: u32) {
         "reference-tokens" => (Box::new(reference_tokens), bench::netlist),
         "library-read" => (read::library(), bench::full_netlist),
         "reference-read" => (read::reference(), bench::full_netlist),
+        "reference-read-own" => (read::reference_kept(), bench::full_netlist),
+        "library-alike" => (read::library(), bench::alike_netlist),
+        "reference-alike" => (read::reference(), bench::alike_netlist),
         _ => panic!("no function has the name {name}"),
     };
     timed(&mut work, &text(kib << 10, kib as u64), calls);
@@ -119,7 +140,7 @@ fn main() {
             assert!(answer > 400, "the text is taken");
             let [a, b] = best([&mut line.library, &mut line.plain], &text, rounds);
             let ratio = a / b;
-            let verdict = match line.limit {
+            let verdict = match line.limit.at(kib) {
                 None => "     -  no limit".to_string(),
                 Some(limit) if ratio <= limit => format!("{limit:>6}  within"),
                 Some(limit) => format!("{limit:>6}  OVER"),

@@ -1,6 +1,6 @@
 //! Reading as it is timed: tables and work space are made once, and every call reads into the same ones.
 
-use crate::{Line, Work};
+use crate::{Limit, Line, Work};
 use grackleivy::{ROWS, STRINGS, TRITS, WORK};
 
 /// An answer as one number: the place of a refusal, or above every place the count of cells and the first run of an accepted text.
@@ -16,14 +16,29 @@ pub fn library() -> Work {
     })
 }
 
+/// The plain reader with the library's duty: what it is lent may hold anything, and the work space is zero afterwards.
 pub fn reference() -> Work {
+    plain(reference::read_into_lent)
+}
+
+/// The plain reader with a work space of its own that it knows to be clear.
+pub fn reference_kept() -> Work {
+    plain(reference::read_into)
+}
+
+fn plain(read: fn(&[u8], &mut reference::Tables, &mut reference::Work) -> Result<(), reference::Refusal>) -> Work {
     let (mut tables, mut work) = (reference::Tables::new(), reference::Work::new());
     Box::new(move |text| {
-        let read = reference::read_into(text, &mut tables, &mut work);
+        let read = read(text, &mut tables, &mut work);
         answer(read.err().map(|refusal| refusal.place), &tables.rows)
     })
 }
 
-pub fn line() -> Line {
-    Line { name: "read", library: library(), plain: reference(), limit: Some(1.5), text: bench::full_netlist }
+pub fn lines() -> Vec<Line> {
+    let line = |name, plain, limit, text| Line { name, library: library(), plain, limit, text };
+    vec![
+        line("read", reference(), Limit::AtFull(1.5), bench::full_netlist),
+        line("read, own work space", reference_kept(), Limit::None, bench::full_netlist),
+        line("read, names alike", reference(), Limit::None, bench::alike_netlist),
+    ]
 }

@@ -4,7 +4,7 @@
 
 #![forbid(unsafe_code)]
 
-use bench::{any_netlist, changed, full_netlist, Random};
+use bench::{alike_netlist, any_netlist, changed, full_netlist, Random};
 use grackleivy::{ROWS, STRINGS, TRITS, WORK};
 use reference::{lines, Refusal, Tables, Work};
 use std::path::Path;
@@ -178,6 +178,20 @@ fn netlists_near_the_limits() {
         }
     }
     compared.finish(2_400);
+}
+
+#[test]
+fn names_alike() {
+    let mut random = seeded("names alike");
+    let mut compared = Compared::new("names alike");
+    for kib in [4, 16, 64] {
+        let text = alike_netlist(kib << 10, 0);
+        compared.text(&text);
+        for _ in 0..60 {
+            compared.text(&changed(&text, &mut random));
+        }
+    }
+    compared.finish(180);
 }
 
 #[test]

@@ -51,6 +51,16 @@ impl Work {
         self.outputs.clear();
         self.waiting.clear();
     }
+
+    /// Makes all of it zero, whatever it holds.
+    fn wipe(&mut self) {
+        self.metas.wipe();
+        self.cells.wipe();
+        self.ios.clear();
+        self.inputs.clear();
+        self.outputs.clear();
+        self.waiting.clear();
+    }
 }
 
 impl Default for Work {
@@ -91,6 +101,11 @@ impl Numbers {
             self.rows[usize::from(number)] = 0;
         }
     }
+
+    fn wipe(&mut self) {
+        self.rows.fill(0);
+        self.declared.clear();
+    }
 }
 
 /// Reads a text into new tables.
@@ -105,10 +120,27 @@ pub fn read_into(text: &[u8], tables: &mut Tables, work: &mut Work) -> Result<()
     if !tables.long_enough() {
         return Err(refusal(1, 0));
     }
+    let read = read_with_clear(text, tables, work);
+    work.clear();
+    read
+}
+
+/// The same in a work space that may hold anything: as it is not known to be clear, all of it is made zero before and after.
+pub fn read_into_lent(text: &[u8], tables: &mut Tables, work: &mut Work) -> Result<(), Refusal> {
+    if !tables.long_enough() {
+        return Err(refusal(1, 0));
+    }
+    work.wipe();
+    let read = read_with_clear(text, tables, work);
+    work.wipe();
+    read
+}
+
+/// The same with a work space that is clear before; what it has used stays in it.
+fn read_with_clear(text: &[u8], tables: &mut Tables, work: &mut Work) -> Result<(), Refusal> {
     tables.clear();
     whole(text)?;
     let read = Reading::new(text, tables, work).all();
-    work.clear();
     if read.is_err() {
         tables.clear();
     }
