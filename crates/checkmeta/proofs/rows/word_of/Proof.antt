@@ -1,0 +1,26 @@
+use mathlib.Core.Path.{refl}
+use native.Mathlib.Omega.{arith}
+use borrow.Author.Needs.{needs}
+use Rattle.checkmeta.proofs.rows.word_of.Statement.{statement}
+use Rattle.checkmeta.proofs.rows.word_of.Tie as tie
+use Rattle.checkmeta.proofs.rows.word_of.Reads as reads
+use Rattle.checkmeta.proofs.rows.word_of.Lts as lts
+
+-- src/rows.rt:31:5
+mul-result : tie.Need-mul-result
+mul-result c = search needs
+
+-- src/rows.rt:31:5
+shared-slice-read-result : tie.Need-shared-slice-read-result
+shared-slice-read-result c = search needs
+
+-- src/rows.rt:31:5
+cast-result : tie.Need-cast-result
+cast-result c = omega (arith, c .shared-slice-known .given (c .before .args .i))
+
+-- src/rows.rt:27:1
+returns : tie.Need-returns
+returns c = (refl, omega (arith, c .shared-slice-known .given (c .before .args .i)))
+
+pub word-of-spec : {M : Type 1} → statement M
+word-of-spec = tie.close (tie.spec mul-result shared-slice-read-result cast-result returns)

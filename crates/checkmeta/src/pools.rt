@@ -1,0 +1,57 @@
+// Pools and regions: what lies in them, and nothing behind it.
+ghost use mathlib.Core.Path.{_≡_};
+ghost use lib.ListN.{drop};
+ghost use Rattle.ground.specs.Lists.{every};
+ghost use Rattle.ground.specs.Regions.{blank};
+ghost use Rattle.netlist.specs.Rules.{isByte, isTrit};
+
+// Whether there are only zeros from a place on.
+pub fn blank_words(table: &[u32], from: usize) -> bool
+    ensures { λ r. ⌜ r ≡ blank (drop from (now (table .entry))) ⌝ }
+{
+    let mut i = from;
+    while i < table.len() {
+        if table[i] != 0 {
+            return false;
+        }
+        i += 1;
+    }
+    true
+}
+
+pub fn blank_bytes(pool: &[u8], from: usize) -> bool
+    ensures { λ r. ⌜ r ≡ blank (drop from (now (pool .entry))) ⌝ }
+{
+    let mut i = from;
+    while i < pool.len() {
+        if pool[i] != 0 {
+            return false;
+        }
+        i += 1;
+    }
+    true
+}
+
+// Whether each is 0, 1 or X.
+pub fn all_trits(bits: &[u8]) -> bool
+    ensures { λ r. ⌜ r ≡ every isTrit (now (bits .entry)) ⌝ }
+{
+    let mut i = 0;
+    while i < bits.len() {
+        if 2 < bits[i] {
+            return false;
+        }
+        i += 1;
+    }
+    true
+}
+
+// Whether each is below 256, which no byte fails: one look tells.
+pub fn all_bytes(pool: &[u8]) -> bool
+    ensures { λ r. ⌜ r ≡ every isByte (now (pool .entry)) ⌝ }
+{
+    if pool.len() == 0 {
+        return true;
+    }
+    pool[0] <= 255
+}
