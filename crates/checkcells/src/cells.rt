@@ -1,0 +1,1 @@
+// Cell rows, one after the other.
