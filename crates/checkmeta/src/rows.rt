@@ -66,7 +66,7 @@ fn values_sound(metas: &[u32], n: usize, row: &[u32]) -> bool
 
 // Whether what a row names begins where the pool so far ends, and is there.
 pub fn lies_at(at: usize, room: usize, start: usize, size: usize) -> bool
-    requires { ⌜ (at < 4294967296) × (size < 8589934592) ⌝ }
+    requires { ⌜ (at < 4294967296) × (size < 17179869184) ⌝ }
     ensures { λ r. ⌜ r ≡ lies at room start size ⌝ }
 {
     if start != at {
