@@ -75,7 +75,7 @@ bits-append [] qs = refl
 bits-append (r ∷ rs) qs = rw (bits-append rs qs) (sym (append-assoc (bitsIn r) (runBitsOf rs) (runBitsOf qs)))
 
 -- THREE OPERANDS, one after the other
-abbrev runsAt : Tables → ℕ → ℕ → List Run
+abbrev pub runsAt : Tables → ℕ → ℕ → List Run
 runsAt T r n = runsIn T n (drop (r * 3) (T .runs))
 
 abbrev pub threeRuns : Tables → ℕ → ℕ → ℕ → ℕ → List Run
@@ -101,9 +101,9 @@ module _ (T : Tables) (l : length (T .runBits) ≡ 262656) (ws : List ℕ) (r e 
       let k : (r + a + b + c) * 3 ≡ (r + (a + (b + c))) * 3 = omega arith in
       let d : length (runBitsOf (A ++ (B ++ C))) ≡ length (runBitsOf A) + (length (runBitsOf B) + length (runBitsOf C)) = rw (runBits-append A (B ++ C), runBits-append B C) in
       let rows : drop (r * 3) (T .runs) ≡ runRows e A ++ (runRows f B ++ (runRows g C ++ drop ((r + a + b + c) * 3) (T .runs))) =
-          p .rows ∙ ap (λ (t : List ℕ). runRows e A ++ t) (q .rows ∙ ap (λ (t : List ℕ). runRows f B ++ t) (s .rows)) in
+      p .rows ∙ ap (λ (t : List ℕ). runRows e A ++ t) (q .rows ∙ ap (λ (t : List ℕ). runRows f B ++ t) (s .rows)) in
       let bits : drop e (T .runBits) ≡ runBitsOf A ++ (runBitsOf B ++ (runBitsOf C ++ drop h (T .runBits))) =
-          p .bits ∙ ap (λ (t : List ℕ). runBitsOf A ++ t) (q .bits ∙ ap (λ (t : List ℕ). runBitsOf B ++ t) (s .bits)) in
+      p .bits ∙ ap (λ (t : List ℕ). runBitsOf A ++ t) (q .bits ∙ ap (λ (t : List ℕ). runBitsOf B ++ t) (s .bits)) in
       record {
         rows = rw (rows-append e A (B ++ C), rows-append (e + length (runBitsOf A)) B C, ← p .end, ← q .end, ← k) (rows ∙ simp append-assoc);
         bits = rw (bits-append A (B ++ C), bits-append B C) (bits ∙ simp append-assoc);
@@ -161,3 +161,136 @@ module _ (T : Tables) (l : length (T .runBits) ≡ 262656) (ws : List ℕ) (r e 
       let o₂ = operand-walks T l ws b (r + a) f 0 _ (o₁ .1) (omega (arith, d)) q in
       let o₃ = operand-walks T l ws c (r + a + b) g 0 _ (o₂ .1) (omega (arith, d)) s in
       (rw (o₁ .0, o₂ .0, o₃ .0, zero-add (operandWidth A), zero-add (operandWidth B), zero-add (operandWidth C), n), rw k at (o₃ .1))
+
+-- THE CELL OF A ROW that is placed
+pub record Shown (T : Tables) (r : ℕ) (row : List ℕ) : Type 0 where
+  pub name : length (cellIn T (poolIn T) row .name) ≡ word row 3
+  pub a-is : cellIn T (poolIn T) row .a ≡ runsAt T r (word row 6)
+  pub b-is : cellIn T (poolIn T) row .b ≡ runsAt T (r + word row 6) (word row 7)
+  pub c-is : cellIn T (poolIn T) row .c ≡ runsAt T (r + word row 6 + word row 7) (word row 8)
+
+-- tables whose pools have their lengths, and hold bytes
+pub record Pools (T : Tables) : Type 0 where
+  pub strings : length (T .strings) ≡ 16384
+  pub runs : length (T .runs) ≡ 12288
+  pub bits : length (T .runBits) ≡ 262656
+  pub bytes : every isByte (T .strings) ≡ true
+
+name-facts : (h : Bool) (n : ℕ) → pick h (leb 1 n && leb n 255) (eqb n 0) ≡ true → (pick h (not (eqb n 0)) (eqb n 0) ≡ true) × (leb n 255 ≡ true)
+name-facts true n p = let q = and-true (leb 1 n) (leb n 255) p in let k = leb-true 1 n (q .0) in (rw (ne-eqb n 0 (λ e. omega arith)), q .1)
+name-facts false n p = let k = eqb-true n 0 p in (p, le-leb n 255 (omega arith))
+
+facts-name : (h : Bool) (n : ℕ) → pick h (not (eqb n 0)) (eqb n 0) ≡ true → leb n 255 ≡ true → pick h (leb 1 n && leb n 255) (eqb n 0) ≡ true
+facts-name true n p q = true-and (leb 1 n) (leb n 255) (go (ℕ-discrete n 0)) q
+  where
+    go : Dec (n ≡ 0) → leb 1 n ≡ true
+    go (yes e) = never-both (rw (eq-eqb n 0 e) at p) refl
+    go (no e) = le-leb 1 n (omega arith)
+facts-name false n p q = p
+
+module _ (T : Tables) (P : Pools T) where
+  pub placed-shown : (s r : ℕ) (row : List ℕ) → Placed s r row → Shown T r row
+  placed-shown s r row o =
+      let h = o .runs in
+      record {
+        name = part-length (word row 2) (word row 3) (T .strings) (omega (arith, o .name, o .strings, P .strings));
+        a-is = rw (o .first) (part-runs T r (word row 6) 4096 (T .runs) (omega arith));
+        b-is = rw (o .first) (part-runs T (r + word row 6) (word row 7) 4096 (T .runs) (omega arith));
+        c-is = rw (o .first) (part-runs T (r + word row 6 + word row 7) (word row 8) 4096 (T .runs) (omega arith));
+      }
+
+  module _ (ws : List ℕ) (metas s r b : ℕ) (row : List ℕ) where
+    abbrev pub cell : Cell
+    cell = cellIn T (poolIn T) row
+
+    -- what a good row tells
+    pub record Told (out e : ℕ) : Type 0 where
+      pub placed : Placed s r row
+      pub three : drop (r * 3) (T .runs) ≡ runRows b (cellRuns cell) ++ drop ((r + (word row 6 + (word row 7 + word row 8))) * 3) (T .runs)
+      pub bits : drop b (T .runBits) ≡ runBitsOf (cellRuns cell) ++ drop e (T .runBits)
+      pub end : e ≡ b + length (runBitsOf (cellRuns cell))
+      pub outs : out ≡ outputBits cell
+      pub sound : cellSound ws metas cell ≡ true
+      pub short : shortString (cell .name) ≡ true
+
+    told-of : (x y z e : ℕ) → isKind (word row 0) ≡ true → cellPlaced s r row && cellHead metas (word row 0) row ≡ true
+        → Three T ws r b (word row 6) (word row 7) (word row 8) x y z e → kindAt (word row 0) .widths (word row 1) x y z ≡ true → Told (outWidth (word row 0) x) e
+    told-of x y z e k h t w =
+        let p = and-true (cellPlaced s r row) (cellHead metas (word row 0) row) h in
+        let o = placed-is s r row (p .0) in
+        let v = placed-shown s r row o in
+        let q = and-true (cellNamed (word row 0) (word row 3) && leb (word row 4) metas) _ (p .1) in
+        let q₁ = and-true (cellNamed (word row 0) (word row 3)) (leb (word row 4) metas) (q .0) in
+        let q₂ = and-true (leb 1 (kindAt (word row 0) .operands) || eqb (word row 6) 0) _ (q .1) in
+        let q₃ = and-true (leb 2 (kindAt (word row 0) .operands) || eqb (word row 7) 0) _ (q₂ .1) in
+        let n = name-facts (kindAt (word row 0) .named) (word row 3) (q₁ .0) in
+        let la : length (cell .a) ≡ word row 6 = ap length (v .a-is) ∙ length-runsIn T (word row 6) _ in
+        let lb : length (cell .b) ≡ word row 7 = ap length (v .b-is) ∙ length-runsIn T (word row 7) _ in
+        let lc : length (cell .c) ≡ word row 8 = ap length (v .c-is) ∙ length-runsIn T (word row 8) _ in
+        let f₁ : pick (kindAt (word row 0) .named) (not (isEmpty (cell .name))) (isEmpty (cell .name)) ≡ true = rw (v .name) (n .0) in
+        let f₄ : leb 1 (kindAt (word row 0) .operands) || runless (cell .a) ≡ true = rw la (q₂ .0) in
+        let f₅ : leb 2 (kindAt (word row 0) .operands) || runless (cell .b) ≡ true = rw lb (q₃ .0) in
+        let f₆ : leb 3 (kindAt (word row 0) .operands) || runless (cell .c) ≡ true = rw lc (q₃ .1) in
+        let f₇ : cellWidth (word row 0) (word row 1) (operandWidth (cell .a)) (operandWidth (cell .b)) (operandWidth (cell .c)) ≡ true = rw (v .a-is, v .b-is, v .c-is, ← t .x-wide, ← t .y-wide, ← t .z-wide) w in
+        let f₈ : operandSound ws (cell .a) ≡ true = rw (v .a-is) (t .a-sound) in
+        let f₉ : operandSound ws (cell .b) ≡ true = rw (v .b-is) (t .b-sound) in
+        let fa : operandSound ws (cell .c) ≡ true = rw (v .c-is) (t .c-sound) in
+        record {
+          placed = o;
+          three = rw (v .a-is, v .b-is, v .c-is) (t .rows);
+          bits = rw (v .a-is, v .b-is, v .c-is) (t .bits);
+          end = rw (v .a-is, v .b-is, v .c-is) (t .end);
+          outs = rw (v .a-is, t .x-wide);
+          sound = facts _ _ k (facts _ _ f₁ (facts _ _ (every-part isByte _ _ (T .strings) (P .bytes)) (facts _ _ (q₁ .1) (facts _ _ f₄ (facts _ _ f₅ (facts _ _ f₆ (facts _ _ f₇ (facts _ _ f₈ (facts _ _ f₉ (facts _ _ fa none))))))))));
+          short = rw (v .name) (n .1);
+        }
+
+    pub good-told : (out e : ℕ) → cellGood ws (T .runBits) (T .runs) metas s r b row ≡ verdict.Good out e → Told out e
+    unfolding cellGood
+    good-told out e g =
+        let u = good-placed ws (T .runBits) (T .runs) metas s r b row out e g in
+        let j : judged (word row 0) (word row 1) (operandsWalk ws (T .runBits) (T .runs) r b (word row 6) (word row 7) (word row 8)) ≡ verdict.Good out e = rw (u .0, u .1) at g in
+        let o = placed-is s r row (and-true (cellPlaced s r row) _ (u .1) .0) in
+        go u o (operandsWalk ws (T .runBits) (T .runs) r b (word row 6) (word row 7) (word row 8)) refl j
+      where
+        wrong : {A : Type 0} → verdict.Wrong ≡ verdict.Good out e → A
+        wrong d = let n : _≡_ {A = ℕ} 0 1 = cc (d) in absurd (omega arith)
+
+        go : (isKind (word row 0) ≡ true) × (cellPlaced s r row && cellHead metas (word row 0) row ≡ true) → Placed s r row
+            → (w : Widths) → operandsWalk ws (T .runBits) (T .runs) r b (word row 6) (word row 7) (word row 8) ≡ w → judged (word row 0) (word row 1) w ≡ verdict.Good out e → Told out e
+        go u o widths.Wrong q j = wrong j
+        go u o (widths.Of x y z h) q j = bool-cases (kindAt (word row 0) .widths (word row 1) x y z)
+            (λ k. let d : verdict.Good (outWidth (word row 0) x) h ≡ verdict.Good out e = rw k at j in
+            let d₁ : outWidth (word row 0) x ≡ out = cc (d) in
+            let d₂ : h ≡ e = cc (d) in
+            rw (← d₁, ← d₂) (told-of x y z h (u .0) (u .1) (three-walked T (P .bits) ws r b (word row 6) (word row 7) (word row 8) x y z h (omega (arith, o .runs, P .runs)) q) k))
+            (λ k. wrong (rw k at j))
+
+    -- and back: a row that is placed, whose runs are laid, and whose cell is sound
+    pub sound-good : Placed s r row → (rest : List ℕ) → drop (r * 3) (T .runs) ≡ runRows b (cellRuns cell) ++ rest → b + length (runBitsOf (cellRuns cell)) ≤ 262656
+        → cellSound ws metas cell ≡ true → shortString (cell .name) ≡ true
+        → (cellGood ws (T .runBits) (T .runs) metas s r b row ≡ verdict.Good (outputBits cell) (b + length (runBitsOf (cellRuns cell))))
+        × (drop ((r + (word row 6 + (word row 7 + word row 8))) * 3) (T .runs) ≡ rest)
+    unfolding cellGood
+    sound-good o rest w m s₁ s₂ =
+        let v = placed-shown s r row o in
+        let la : length (cell .a) ≡ word row 6 = ap length (v .a-is) ∙ length-runsIn T (word row 6) _ in
+        let lb : length (cell .b) ≡ word row 7 = ap length (v .b-is) ∙ length-runsIn T (word row 7) _ in
+        let lc : length (cell .c) ≡ word row 8 = ap length (v .c-is) ∙ length-runsIn T (word row 8) _ in
+        let k : isKind (word row 0) ≡ true = fact _ s₁ 0 in
+        let n₀ : pick (kindAt (word row 0) .named) (not (isEmpty (cell .name))) (isEmpty (cell .name)) ≡ true = fact _ s₁ 1 in
+        let n : cellNamed (word row 0) (word row 3) ≡ true = facts-name (kindAt (word row 0) .named) (word row 3) (rw (v .name) at n₀) (rw (v .name) at s₂) in
+        let m₀ : leb (word row 4) metas ≡ true = fact _ s₁ 3 in
+        let a₀ : leb 1 (kindAt (word row 0) .operands) || runless (cell .a) ≡ true = fact _ s₁ 4 in
+        let b₀ : leb 2 (kindAt (word row 0) .operands) || runless (cell .b) ≡ true = fact _ s₁ 5 in
+        let c₀ : leb 3 (kindAt (word row 0) .operands) || runless (cell .c) ≡ true = fact _ s₁ 6 in
+        let w₀ : cellWidth (word row 0) (word row 1) (operandWidth (cell .a)) (operandWidth (cell .b)) (operandWidth (cell .c)) ≡ true = fact _ s₁ 7 in
+        let a₁ : operandSound ws (cell .a) ≡ true = fact _ s₁ 8 in
+        let b₁ : operandSound ws (cell .b) ≡ true = fact _ s₁ 9 in
+        let c₁ : operandSound ws (cell .c) ≡ true = fact _ s₁ 10 in
+        let t = three-walks T (P .bits) ws r b (word row 6) (word row 7) (word row 8) rest (rw (v .a-is, v .b-is, v .c-is) at w) (rw (v .a-is, v .b-is, v .c-is) at m) (rw (v .a-is) at a₁) (rw (v .b-is) at b₁) (rw (v .c-is) at c₁) in
+        let w₁ = rw (v .a-is, v .b-is, v .c-is) at w₀ in
+        let p : cellPlaced s r row ≡ true = true-and _ _ (true-and _ _ (eq-eqb (word row 2) s (o .name)) (le-leb _ _ (o .strings))) (true-and _ _ (eq-eqb (word row 5) r (o .first)) (le-leb _ _ (o .runs))) in
+        let h : cellHead metas (word row 0) row ≡ true = true-and _ _ (true-and _ _ n m₀) (true-and _ _ (rw la at a₀) (true-and _ _ (rw lb at b₀) (rw lc at c₀))) in
+        let g : cellPlaced s r row && cellHead metas (word row 0) row ≡ true = true-and _ _ p h in
+        (rw (k, g, t .0, v .a-is, v .b-is, v .c-is, w₁), t .1)
