@@ -1,0 +1,170 @@
+-- How the loops over names and I/O rows go on and end.
+use mathlib.Core.Path.{_≡_, refl, sym, ap, _∙_}
+use mathlib.Core.Bool.{Bool, true, false, _&&_}
+use mathlib.Core.List.{List, [], _∷_}
+use Prim.Native.Nat.{ℕ, zero, suc, _+_, _-_, _*_, _<_, _≤_}
+use native.Mathlib.Omega.{arith}
+use native.Mathlib.Decide.{ℕ-discrete}
+use native.Mathlib.Nat.{add-zero}
+use lib.Dec.{eqb, leb}
+use lib.ListN.{length, drop, take, getD}
+use lib.Seq.{getD-drop}
+use borrow.Author.Tests.{eq-eqb, ne-eqb}
+use Rattle.ground.specs.Choice.{pick}
+use Rattle.ground.specs.Regions.{blank, part}
+use Rattle.ground.specs.Text.{same}
+use Rattle.ground.proofs.Bools.{bool-cases, and-true}
+use Rattle.ground.proofs.Rest.{rest-cons, rest-end, rest-rest}
+use Rattle.netlist.specs.Rules.{taken, distinct}
+use Rattle.netlist.specs.View.{word}
+use Rattle.checkmeta.specs.Walk.{lies}
+use Rattle.checkmeta.proofs.Laws.{lies-is, part-is}
+use Rattle.checking.specs.Names.{ioName, cellName, ioNamesIn, cellNamesIn}
+use Rattle.checking.specs.Walk.{ioGood, iosWalk}
+use Rattle.checking.specs.declared.ios.Upto.{Upto}
+use Rattle.checking.specs.declared.ios.Upto.the-variants.{Wrong, At}
+
+-- TWO STRINGS
+module _ (a b : List ℕ) (i : ℕ) where
+  pub same-on : i < length a → i < length b → getD a i 0 ≡ getD b i 0 → same (drop (i + 1) a) (drop (i + 1) b) ≡ same (drop i a) (drop i b)
+  unfolding same
+  same-on h k e = sym (rw (rest-cons a i h, rest-cons b i k, eq-eqb (getD a i 0) (getD b i 0) e, same))
+
+  pub same-off : i < length a → i < length b → (getD a i 0 ≡ getD b i 0 → ⊥) → false ≡ same (drop i a) (drop i b)
+  unfolding same
+  same-off h k e = sym (rw (rest-cons a i h, rest-cons b i k, ne-eqb (getD a i 0) (getD b i 0) e, same))
+
+  pub same-end : length a ≤ i → length b ≤ i → true ≡ same (drop i a) (drop i b)
+  unfolding same
+  same-end h k = rw (rest-end a i h, rest-end b i k)
+
+pub same-long : (a b : List ℕ) → (length a ≡ length b → ⊥) → false ≡ same a b
+unfolding same
+same-long [] [] h = absurd (h refl)
+same-long [] (y ∷ b) h = refl
+same-long (x ∷ a) [] h = refl
+same-long (x ∷ a) (y ∷ b) h = bool-cases (eqb x y) (λ e. rw (e, same) (same-long a b (λ k. h (ap suc k)))) (λ e. rw (e, same))
+
+pub same-comm : (a b : List ℕ) → same a b ≡ same b a
+unfolding same
+same-comm [] [] = refl
+same-comm [] (y ∷ b) = refl
+same-comm (x ∷ a) [] = refl
+same-comm (x ∷ a) (y ∷ b) = go (ℕ-discrete x y) (same-comm a b)
+  where
+    go : Dec (x ≡ y) → same a b ≡ same b a → same (x ∷ a) (y ∷ b) ≡ same (y ∷ b) (x ∷ a)
+    go (yes e) s = rw (eq-eqb x y e, eq-eqb y x (sym e), same) s
+    go (no e) s = rw (ne-eqb x y e, ne-eqb y x (λ k. e (sym k)), same)
+
+-- ROWS of w words
+pub next-row : (w i : ℕ) (rows : List ℕ) → i * w + w ≡ (i + 1) * w → drop w (drop (i * w) rows) ≡ drop ((i + 1) * w) rows
+next-row w i rows e = rest-rest rows (i * w) w ∙ ap (λ (k : ℕ). drop k rows) e
+
+module _ (S : List ℕ) (n i : ℕ) (rows : List ℕ) (h : i < n) where
+  ios-cons : ioNamesIn S (n - i) (drop (i * 3) rows) ≡ ioName S (drop (i * 3) rows) ∷ ioNamesIn S (n - (i + 1)) (drop ((i + 1) * 3) rows)
+  unfolding ioNamesIn
+  ios-cons = let m : n - i ≡ suc (n - (i + 1)) = omega arith in rw (m, ← next-row 3 i rows (omega arith))
+
+  module _ (name : List ℕ) where
+    pub io-hit : true ≡ same (ioName S (drop (i * 3) rows)) name → true ≡ taken name (ioNamesIn S (n - i) (drop (i * 3) rows))
+    unfolding taken
+    io-hit e = sym (rw (ios-cons, same-comm name (ioName S (drop (i * 3) rows)), ← e, taken))
+
+    pub io-miss : false ≡ same (ioName S (drop (i * 3) rows)) name → taken name (ioNamesIn S (n - (i + 1)) (drop ((i + 1) * 3) rows)) ≡ taken name (ioNamesIn S (n - i) (drop (i * 3) rows))
+    unfolding taken
+    io-miss e = sym (rw (ios-cons, same-comm name (ioName S (drop (i * 3) rows)), ← e, taken))
+
+  pub io-again : true ≡ taken (ioName S (drop (i * 3) rows)) (ioNamesIn S (n - (i + 1)) (drop ((i + 1) * 3) rows)) → false ≡ distinct (ioNamesIn S (n - i) (drop (i * 3) rows))
+  unfolding distinct
+  io-again e = sym (rw (ios-cons, ← e, distinct))
+
+  pub io-once : false ≡ taken (ioName S (drop (i * 3) rows)) (ioNamesIn S (n - (i + 1)) (drop ((i + 1) * 3) rows)) → distinct (ioNamesIn S (n - (i + 1)) (drop ((i + 1) * 3) rows)) ≡ distinct (ioNamesIn S (n - i) (drop (i * 3) rows))
+  unfolding distinct
+  io-once e = sym (rw (ios-cons, ← e, distinct))
+
+pub io-none : (S : List ℕ) (n i : ℕ) (rows name : List ℕ) → n ≤ i → false ≡ taken name (ioNamesIn S (n - i) rows)
+unfolding taken ioNamesIn
+io-none S n i rows name h = let m : n - i ≡ 0 = omega arith in rw m
+
+pub io-all : (S : List ℕ) (n i : ℕ) (rows : List ℕ) → n ≤ i → true ≡ distinct (ioNamesIn S (n - i) rows)
+unfolding distinct ioNamesIn
+io-all S n i rows h = let m : n - i ≡ 0 = omega arith in rw m
+
+module _ (S : List ℕ) (kind n i : ℕ) (rows : List ℕ) (h : i < n) where
+  cells-same : eqb (word (drop (i * 9) rows) 0) kind ≡ true → cellNamesIn S kind (n - i) (drop (i * 9) rows) ≡ cellName S (drop (i * 9) rows) ∷ cellNamesIn S kind (n - (i + 1)) (drop ((i + 1) * 9) rows)
+  unfolding cellNamesIn
+  cells-same e = let m : n - i ≡ suc (n - (i + 1)) = omega arith in rw (m, ← next-row 9 i rows (omega arith)) (rw (e, cellNamesIn))
+
+  cells-other : eqb (word (drop (i * 9) rows) 0) kind ≡ false → cellNamesIn S kind (n - i) (drop (i * 9) rows) ≡ cellNamesIn S kind (n - (i + 1)) (drop ((i + 1) * 9) rows)
+  unfolding cellNamesIn
+  cells-other e = let m : n - i ≡ suc (n - (i + 1)) = omega arith in rw (m, ← next-row 9 i rows (omega arith)) (rw (e, cellNamesIn))
+
+  abbrev here : Bool
+  here = eqb (word (drop (i * 9) rows) 0) kind
+
+  module _ (name : List ℕ) where
+    pub cell-hit : true ≡ here && same (cellName S (drop (i * 9) rows)) name → true ≡ taken name (cellNamesIn S kind (n - i) (drop (i * 9) rows))
+    unfolding taken
+    cell-hit e = let p = and-true here _ (sym e) in sym (rw (cells-same (p .0), same-comm name (cellName S (drop (i * 9) rows)), p .1, taken))
+
+    pub cell-miss : false ≡ here && same (cellName S (drop (i * 9) rows)) name → taken name (cellNamesIn S kind (n - (i + 1)) (drop ((i + 1) * 9) rows)) ≡ taken name (cellNamesIn S kind (n - i) (drop (i * 9) rows))
+    unfolding taken
+    cell-miss e = bool-cases here
+        (λ k. let d : false ≡ same (cellName S (drop (i * 9) rows)) name = rw k at e in sym (rw (cells-same k, same-comm name (cellName S (drop (i * 9) rows)), ← d, taken)))
+        (λ k. rw (cells-other k))
+
+  pub cell-twice : true ≡ here && taken (cellName S (drop (i * 9) rows)) (cellNamesIn S kind (n - (i + 1)) (drop ((i + 1) * 9) rows)) → false ≡ distinct (cellNamesIn S kind (n - i) (drop (i * 9) rows))
+  unfolding distinct
+  cell-twice e = let p = and-true here _ (sym e) in sym (rw (cells-same (p .0), p .1, distinct))
+
+  pub cell-once : false ≡ here && taken (cellName S (drop (i * 9) rows)) (cellNamesIn S kind (n - (i + 1)) (drop ((i + 1) * 9) rows)) → distinct (cellNamesIn S kind (n - (i + 1)) (drop ((i + 1) * 9) rows)) ≡ distinct (cellNamesIn S kind (n - i) (drop (i * 9) rows))
+  unfolding distinct
+  cell-once e = bool-cases here
+      (λ k. let d : false ≡ taken (cellName S (drop (i * 9) rows)) (cellNamesIn S kind (n - (i + 1)) (drop ((i + 1) * 9) rows)) = rw k at e in sym (rw (cells-same k, ← d, distinct)))
+      (λ k. rw (cells-other k))
+
+pub cell-none : (S : List ℕ) (kind n i : ℕ) (rows name : List ℕ) → n ≤ i → false ≡ taken name (cellNamesIn S kind (n - i) rows)
+unfolding taken cellNamesIn
+cell-none S kind n i rows name h = let m : n - i ≡ 0 = omega arith in rw m
+
+pub cell-all : (S : List ℕ) (kind n i : ℕ) (rows : List ℕ) → n ≤ i → true ≡ distinct (cellNamesIn S kind (n - i) rows)
+unfolding distinct cellNamesIn
+cell-all S kind n i rows h = let m : n - i ≡ 0 = omega arith in rw m
+
+-- I/O ROWS
+pub io-placed : (s : ℕ) (row : List ℕ) → ioGood s row ≡ true → (word row 0 ≡ s) × (s + word row 1 ≤ 16384)
+io-placed s row h = lies-is s 16384 (word row 0) (word row 1) (and-true (lies s 16384 (word row 0) (word row 1)) _ h .0)
+
+module _ (rows : List ℕ) (i s n : ℕ) where
+  pub ios-on : i < n → ioGood s (drop (i * 3) rows) ≡ true → iosWalk rows (i + 1) (s + word (drop (i * 3) rows) 1) (n - (i + 1)) ≡ iosWalk rows i s (n - i)
+  unfolding iosWalk
+  ios-on h e = let k : n - i ≡ suc (n - (i + 1)) = omega arith in rw k (sym (rw (e, iosWalk)))
+
+  pub ios-off : i < n → ioGood s (drop (i * 3) rows) ≡ false → Wrong ≡ iosWalk rows i s (n - i)
+  unfolding iosWalk
+  ios-off h e = let k : n - i ≡ suc (n - (i + 1)) = omega arith in rw k (sym (rw (e, iosWalk)))
+
+  pub ios-end : n ≤ i → pick (blank (drop (i * 3) rows)) (At s) Wrong ≡ iosWalk rows i s (n - i)
+  unfolding iosWalk
+  ios-end h = let k : n - i ≡ 0 = omega arith in rw k
+
+pub record Walking (rows : List ℕ) (names n i s : ℕ) : Type 0 where
+  pub row : i ≤ n
+  pub s-room : s ≤ 16384
+  pub is : iosWalk rows i s (n - i) ≡ iosWalk rows 0 names n
+
+pub walking-on : {rows : List ℕ} {names n i s : ℕ} → Walking rows names n i s → i < n → ioGood s (drop (i * 3) rows) ≡ true → (x : ℕ) → x ≡ getD rows (i * 3 + 1) 0 → Walking rows names n (i + 1) (s + x)
+walking-on {rows} {names} {n} {i} {s} k h g x p =
+    let a : word (drop (i * 3) rows) 1 ≡ x = getD-drop (i * 3) rows 1 0 ∙ sym p in
+    record { row = omega arith; s-room = rw a at (io-placed s (drop (i * 3) rows) g .1); is = (rw a at (ios-on rows i s n h g)) ∙ k .is }
+
+-- a name of the slice, from its place to its end
+pub name-part : (S : List ℕ) (a n x y : ℕ) → x ≡ a → y ≡ n → take (x + y - x) (drop x S) ≡ part a n S
+name-part S a n x y p q = rw (← p, ← q) (part-is S x y)
+
+-- the words of a row, read in the table
+pub row-word : (k j x : ℕ) (rows : List ℕ) → x ≡ getD rows (k + j) 0 → x ≡ word (drop k rows) j
+row-word k j x rows e = e ∙ sym (getD-drop k rows j 0)
+
+pub row-head : (k x : ℕ) (rows : List ℕ) → x ≡ getD rows k 0 → x ≡ word (drop k rows) 0
+row-head k x rows e = e ∙ sym (getD-drop k rows 0 0 ∙ rw (add-zero k))

@@ -1,0 +1,131 @@
+// Names declared twice (rule 9): a name beside those of the rows behind it.
+use checkmeta::rows::word_of;
+ghost use mathlib.Core.Path.{_≡_};
+ghost use mathlib.Core.Bool.{_&&_};
+ghost use Prim.Native.Nat.{_+_, _*_, _-_, _≤_, _<_};
+ghost use lib.Dec.{eqb};
+ghost use lib.ListN.{length, drop};
+ghost use Rattle.ground.specs.Regions.{part};
+ghost use Rattle.ground.specs.Text.{same};
+ghost use Rattle.netlist.specs.Rules.{taken, distinct};
+ghost use Rattle.netlist.specs.View.{word};
+ghost use Rattle.checking.specs.Names.{ioName, cellName, ioNamesIn, cellNamesIn, IosNamed, CellsNamed};
+
+// Whether two strings are the same; those of other lengths are never compared.
+fn same_bytes(a: &[u8], b: &[u8]) -> bool
+    ensures { λ r. ⌜ r ≡ same (now (a .entry)) (now (b .entry)) ⌝ }
+{
+    if a.len() == b.len() {
+        let mut i = 0;
+        while i < a.len() {
+            if a[i] != b[i] {
+                return false;
+            }
+            i += 1;
+        }
+        return true;
+    }
+    false
+}
+
+// Whether the I/O row i has the name.
+pub fn io_named(ios: &[u32], strings: &[u8], i: usize, name: &[u8]) -> bool
+    requires { ⌜ (i * 3 + 3 ≤ length (now ios)) × (word (drop (i * 3) (now ios)) 0 + word (drop (i * 3) (now ios)) 1 ≤ length (now strings)) ⌝ }
+    ensures { λ r. ⌜ r ≡ same (ioName (now (strings .entry)) (drop (i * 3) (now (ios .entry)))) (now (name .entry)) ⌝ }
+{
+    let row = i * 3;
+    let start = word_of(ios, row);
+    let end = start + word_of(ios, row + 1);
+    same_bytes(&strings[start..end], name)
+}
+
+// Whether one of the I/O rows from the row `from` on, of n in all, has the name.
+fn io_taken(ios: &[u32], strings: &[u8], from: usize, n: usize, name: &[u8]) -> bool
+    requires { ⌜ (from ≤ n) × IosNamed (now strings) n (now ios) ⌝ }
+    ensures { λ r. ⌜ r ≡ taken (now (name .entry)) (ioNamesIn (now (strings .entry)) (n - from) (drop (from * 3) (now (ios .entry)))) ⌝ }
+{
+    let mut i = from;
+    while i < n {
+        if io_named(ios, strings, i, name) {
+            return true;
+        }
+        i += 1;
+    }
+    false
+}
+
+// Whether no two of the n I/O rows have one name.
+pub fn ios_distinct(ios: &[u32], strings: &[u8], n: usize) -> bool
+    requires { ⌜ IosNamed (now strings) n (now ios) ⌝ }
+    ensures { λ r. ⌜ r ≡ distinct (ioNamesIn (now (strings .entry)) n (now (ios .entry))) ⌝ }
+{
+    let mut i = 0;
+    while i < n {
+        let row = i * 3;
+        let start = word_of(ios, row);
+        let end = start + word_of(ios, row + 1);
+        if io_taken(ios, strings, i + 1, n, &strings[start..end]) {
+            return false;
+        }
+        i += 1;
+    }
+    true
+}
+
+// Whether the cell row i is of the kind and has the name.
+fn cell_named(cells: &[u32], strings: &[u8], i: usize, kind: u32, name: &[u8]) -> bool
+    requires { ⌜ (i * 9 + 9 ≤ length (now cells)) × (word (drop (i * 9) (now cells)) 2 + word (drop (i * 9) (now cells)) 3 ≤ length (now strings)) ⌝ }
+    ensures { λ r. ⌜ r ≡ (eqb (word (drop (i * 9) (now (cells .entry))) 0) kind && same (cellName (now (strings .entry)) (drop (i * 9) (now (cells .entry)))) (now (name .entry))) ⌝ }
+{
+    let row = i * 9;
+    if cells[row] == kind {
+        let start = word_of(cells, row + 2);
+        let end = start + word_of(cells, row + 3);
+        return same_bytes(&strings[start..end], name);
+    }
+    false
+}
+
+// Whether one of the cell rows from the row `from` on, of n in all, is of the kind and has the name.
+fn cell_taken(cells: &[u32], strings: &[u8], from: usize, n: usize, kind: u32, name: &[u8]) -> bool
+    requires { ⌜ (from ≤ n) × CellsNamed (now strings) n (now cells) ⌝ }
+    ensures { λ r. ⌜ r ≡ taken (now (name .entry)) (cellNamesIn (now (strings .entry)) kind (n - from) (drop (from * 9) (now (cells .entry)))) ⌝ }
+{
+    let mut i = from;
+    while i < n {
+        if cell_named(cells, strings, i, kind, name) {
+            return true;
+        }
+        i += 1;
+    }
+    false
+}
+
+// Whether the name of the cell row i, where it is of the kind, is taken by a row behind it.
+fn cell_again(cells: &[u32], strings: &[u8], i: usize, n: usize, kind: u32) -> bool
+    requires { ⌜ (i < n) × CellsNamed (now strings) n (now cells) ⌝ }
+    ensures { λ r. ⌜ r ≡ (eqb (word (drop (i * 9) (now (cells .entry))) 0) kind && taken (cellName (now (strings .entry)) (drop (i * 9) (now (cells .entry)))) (cellNamesIn (now (strings .entry)) kind (n - (i + 1)) (drop ((i + 1) * 9) (now (cells .entry))))) ⌝ }
+{
+    let row = i * 9;
+    if cells[row] == kind {
+        let start = word_of(cells, row + 2);
+        let end = start + word_of(cells, row + 3);
+        return cell_taken(cells, strings, i + 1, n, kind, &strings[start..end]);
+    }
+    false
+}
+
+// Whether no two of the n cells are of the kind and have one name.
+pub fn cells_distinct(cells: &[u32], strings: &[u8], n: usize, kind: u32) -> bool
+    requires { ⌜ CellsNamed (now strings) n (now cells) ⌝ }
+    ensures { λ r. ⌜ r ≡ distinct (cellNamesIn (now (strings .entry)) kind n (now (cells .entry))) ⌝ }
+{
+    let mut i = 0;
+    while i < n {
+        if cell_again(cells, strings, i, n, kind) {
+            return false;
+        }
+        i += 1;
+    }
+    true
+}
