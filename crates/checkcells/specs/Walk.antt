@@ -89,3 +89,7 @@ cellsWalk ws bits runs metas rows i s r b d o (suc left) =
       | verdict.Wrong ↦ cells.Wrong
       | verdict.Good out e ↦ cellsWalk ws bits runs metas rows (i + 1) (s + word (drop (i * 9) rows) 3) (r + (word (drop (i * 9) rows) 6 + (word (drop (i * 9) rows) 7 + word (drop (i * 9) rows) 8))) e (d + word (drop (i * 9) rows) 1) (o + out) left
     ]
+
+abbrev pub runsUpto : Cells → ℕ
+runsUpto cells.Wrong = 0
+runsUpto (cells.Ends s r b d o) = r

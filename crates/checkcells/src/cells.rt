@@ -15,7 +15,7 @@ ghost use lib.Dec.{leb, eqb};
 ghost use lib.ListN.{length, drop, getD};
 ghost use Rattle.kinds.specs.Kinds.{isKind};
 ghost use Rattle.checkcells.specs.Runs.{widthsIn};
-ghost use Rattle.checkcells.specs.Walk.{cellNamed, cellHead, cellPlaced, operandsWalk, firstOf, endOf, judged, outWidth, outOf, tritsOf, cellGood, cellsWalk};
+ghost use Rattle.checkcells.specs.Walk.{cellNamed, cellHead, cellPlaced, operandsWalk, firstOf, endOf, judged, outWidth, outOf, tritsOf, cellGood, cellsWalk, runsUpto};
 
 // What the three operands of a cell are: their widths, and where their trits end.
 pub enum Widths {
@@ -198,7 +198,7 @@ pub fn cells_good(
     names: usize,
 ) -> Cells
     requires { ⌜ (n * 9 ≤ length (now cells)) × (length (now cells) ≡ 4608) × (length (now runs) ≡ 12288) × (length (now bits) ≡ 262656) × (names ≤ 16384) ⌝ }
-    ensures { λ q. ⌜ q ≡ cellsWalk (widthsIn n (now (cells .entry))) (now (bits .entry)) (now (runs .entry)) metas (now (cells .entry)) 0 names 0 0 0 0 n ⌝ }
+    ensures { λ q. ⌜ (q ≡ cellsWalk (widthsIn n (now (cells .entry))) (now (bits .entry)) (now (runs .entry)) metas (now (cells .entry)) 0 names 0 0 0 0 n) × (runsUpto q ≤ 4096) ⌝ }
 {
     let mut i = 0;
     let mut s = names;

@@ -23,3 +23,7 @@ ioGood s row = lies s 16384 (word row 0) (word row 1) && (nameWide (word row 1) 
 unfoldable pub iosWalk : List ℕ → ℕ → ℕ → ℕ → Upto
 iosWalk rows i s zero = pick (blank (drop (i * 3) rows)) (At s) Wrong
 iosWalk rows i s (suc left) = elim (ioGood s (drop (i * 3) rows)) [ true ↦ iosWalk rows (i + 1) (s + word (drop (i * 3) rows) 1) left | false ↦ Wrong ]
+
+abbrev pub uptoOf : Upto → ℕ
+uptoOf Wrong = 0
+uptoOf (At s) = s

@@ -7,7 +7,7 @@ use kinds::wide;
 ghost use mathlib.Core.Path.{_≡_};
 ghost use Prim.Native.Nat.{_+_, _*_, _≤_, _<_};
 ghost use lib.ListN.{length, drop};
-ghost use Rattle.checking.specs.Walk.{nameWide, ioGood, iosWalk};
+ghost use Rattle.checking.specs.Walk.{nameWide, ioGood, iosWalk, uptoOf};
 
 // Where the strings end behind rows that are good.
 pub enum Upto {
@@ -39,7 +39,7 @@ fn io_good(row: &[u32], s: usize) -> bool
 // The walk over n rows, where their names begin at s: whether they are good and nothing stands behind them.
 pub fn ios_good(ios: &[u32], n: usize, names: usize) -> Upto
     requires { ⌜ (n * 3 ≤ length (now ios)) × (names ≤ 16384) ⌝ }
-    ensures { λ r. ⌜ r ≡ iosWalk (now (ios .entry)) 0 names n ⌝ }
+    ensures { λ r. ⌜ (r ≡ iosWalk (now (ios .entry)) 0 names n) × (uptoOf r ≤ 16384) ⌝ }
 {
     let mut i = 0;
     let mut s = names;

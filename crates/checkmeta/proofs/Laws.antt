@@ -14,7 +14,7 @@ use Rattle.ground.specs.Choice.{pick}
 use Rattle.ground.specs.Regions.{blank, part}
 use Rattle.ground.proofs.Bools.{bool-cases, and-true}
 use Rattle.ground.proofs.Rest.{rest-cons, rest-end, rest-rest}
-use Rattle.netlist.specs.Rules.{refers, isByte}
+use Rattle.netlist.specs.Rules.{refers}
 use Rattle.netlist.specs.View.{word}
 use Rattle.checkmeta.specs.Fields.{kindsIn}
 use Rattle.checkmeta.specs.Walk.{lies, placed, metaGood, metasWalk}
@@ -54,10 +54,6 @@ pub every-below : (n : ℕ) (t : List ℕ) → ((i : ℕ) → getD t i 0 < n) �
 unfolding every
 every-below n [] h = refl
 every-below n (x ∷ t) h = rw (lt-ltb x n (h 0), every) (every-below n t (λ i. h (suc i)))
-
--- whatever byte is looked at
-pub bytes-true : (t : List ℕ) → ((i : ℕ) → getD t i 0 < 256) → leb (getD t 0 0) 255 ≡ every isByte t
-bytes-true t h = le-leb (getD t 0 0) 255 (omega (arith, h 0)) ∙ sym (every-below 256 t h)
 
 -- THE KINDS of the first rows
 pub kinds-length : (n : ℕ) (rows : List ℕ) → length (kindsIn n rows) ≡ n

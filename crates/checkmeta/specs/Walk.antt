@@ -48,3 +48,7 @@ metasWalk members bits rows i s m b (suc left) =
       | true ↦ metasWalk members bits rows (i + 1) (s + (word (drop (i * 16) rows) 2 + word (drop (i * 16) rows) 4)) (m + word (drop (i * 16) rows) 6) (b + word (drop (i * 16) rows) 8) left
       | false ↦ Wrong
     ]
+
+abbrev pub stringsUpto : Metas → ℕ
+stringsUpto Wrong = 0
+stringsUpto (Ends s m b) = s

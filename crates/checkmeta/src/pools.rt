@@ -3,7 +3,7 @@ ghost use mathlib.Core.Path.{_≡_};
 ghost use lib.ListN.{drop};
 ghost use Rattle.ground.specs.Lists.{every};
 ghost use Rattle.ground.specs.Regions.{blank};
-ghost use Rattle.netlist.specs.Rules.{isByte, isTrit};
+ghost use Rattle.netlist.specs.Rules.{isTrit};
 
 // Whether there are only zeros from a place on.
 pub fn blank_words(table: &[u32], from: usize) -> bool
@@ -44,14 +44,4 @@ pub fn all_trits(bits: &[u8]) -> bool
         i += 1;
     }
     true
-}
-
-// Whether each is below 256, which no byte fails: one look tells.
-pub fn all_bytes(pool: &[u8]) -> bool
-    ensures { λ r. ⌜ r ≡ every isByte (now (pool .entry)) ⌝ }
-{
-    if pool.len() == 0 {
-        return true;
-    }
-    pool[0] <= 255
 }

@@ -16,7 +16,7 @@ ghost use mathlib.Core.Path.{_≡_};
 ghost use Prim.Native.Nat.{_+_, _*_, _≤_, _<_};
 ghost use lib.ListN.{length, drop, getD};
 ghost use Rattle.checkmeta.specs.Fields.{kindsIn};
-ghost use Rattle.checkmeta.specs.Walk.{sizesSound, valuesSound, lies, placed, metaGood, metasWalk};
+ghost use Rattle.checkmeta.specs.Walk.{sizesSound, valuesSound, lies, placed, metaGood, metasWalk, stringsUpto};
 
 // What a walk over metadata rows ends with: where the strings, the members and the trits end.
 pub enum Metas {
@@ -125,7 +125,7 @@ fn meta_good(
 // The walk over n rows: whether they are good and nothing stands behind them.
 pub fn metas_good(metas: &[u32], n: usize, members: &[u32], bits: &[u8]) -> Metas
     requires { ⌜ (n * 16 ≤ length (now metas)) × (length (now members) ≡ 1024) × (length (now bits) ≡ 131072) ⌝ }
-    ensures { λ r. ⌜ r ≡ metasWalk (now (members .entry)) (now (bits .entry)) (now (metas .entry)) 0 0 0 0 n ⌝ }
+    ensures { λ r. ⌜ (r ≡ metasWalk (now (members .entry)) (now (bits .entry)) (now (metas .entry)) 0 0 0 0 n) × (stringsUpto r ≤ 16384) ⌝ }
 {
     let mut i = 0;
     let mut s = 0;

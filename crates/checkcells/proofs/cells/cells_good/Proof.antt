@@ -55,7 +55,7 @@ enum-told c = search needs
 
 -- src/cells.rt:213:17
 returns : tie.Need-returns Inv-loop μ-loop
-returns c = let a = c .before .before .before .before .before .before .before .before .before .args in let p = c .before .before .before .before .before .loop in let u = rw (rest-all (a .cells .now) (p .i * 9)) at (sym (c .before .before .cell-good .ensures .0)) in cells-off (widthsIn (a .n) (a .cells .now)) (a .bits .now) (a .runs .now) (a .metas) (a .cells .now) (p .i) (p .s) (p .r) (p .b) (p .d) (p .o) (a .n) (c .before .before .before .before .loop-test .taken) (u ∙ c .enum-told .given .1) ∙ p .inv .is
+returns c = let a = c .before .before .before .before .before .before .before .before .before .args in let p = c .before .before .before .before .before .loop in let u = rw (rest-all (a .cells .now) (p .i * 9)) at (sym (c .before .before .cell-good .ensures .0)) in (cells-off (widthsIn (a .n) (a .cells .now)) (a .bits .now) (a .runs .now) (a .metas) (a .cells .now) (p .i) (p .s) (p .r) (p .b) (p .d) (p .o) (a .n) (c .before .before .before .before .loop-test .taken) (u ∙ c .enum-told .given .1) ∙ p .inv .is, omega arith)
 
 -- src/cells.rt:215:26
 enum-known-out : tie.Need-enum-known-out Inv-loop μ-loop
@@ -147,11 +147,11 @@ blank-words-requires c κs = search needs
 
 -- src/cells.rt:226:9
 returns-2 : tie.Need-returns-2 Inv-loop μ-loop
-returns-2 c = let a = c .before .before .before .before .before .before .before .args in let p = c .before .before .before .loop in (rw (sym (c .before .blank-words .ensures) ∙ c .if1 .taken) at (cells-end (widthsIn (a .n) (a .cells .now)) (a .bits .now) (a .runs .now) (a .metas) (a .cells .now) (p .i) (p .s) (p .r) (p .b) (p .d) (p .o) (a .n) (c .before .before .loop-test .left))) ∙ p .inv .is
+returns-2 c = let a = c .before .before .before .before .before .before .before .args in let p = c .before .before .before .loop in ((rw (sym (c .before .blank-words .ensures) ∙ c .if1 .taken) at (cells-end (widthsIn (a .n) (a .cells .now)) (a .bits .now) (a .runs .now) (a .metas) (a .cells .now) (p .i) (p .s) (p .r) (p .b) (p .d) (p .o) (a .n) (c .before .before .loop-test .left))) ∙ p .inv .is, p .inv .r-room)
 
 -- src/cells.rt:192:1
 returns-3 : tie.Need-returns-3 Inv-loop μ-loop
-returns-3 c = let a = c .before .before .before .before .before .before .before .args in let p = c .before .before .before .loop in (rw (sym (c .before .blank-words .ensures) ∙ c .if1 .left) at (cells-end (widthsIn (a .n) (a .cells .now)) (a .bits .now) (a .runs .now) (a .metas) (a .cells .now) (p .i) (p .s) (p .r) (p .b) (p .d) (p .o) (a .n) (c .before .before .loop-test .left))) ∙ p .inv .is
+returns-3 c = let a = c .before .before .before .before .before .before .before .args in let p = c .before .before .before .loop in ((rw (sym (c .before .blank-words .ensures) ∙ c .if1 .left) at (cells-end (widthsIn (a .n) (a .cells .now)) (a .bits .now) (a .runs .now) (a .metas) (a .cells .now) (p .i) (p .s) (p .r) (p .b) (p .d) (p .o) (a .n) (c .before .before .loop-test .left))) ∙ p .inv .is, omega arith)
 
 pub cells-good-spec : {M : Type 1} → statement M
 cells-good-spec =

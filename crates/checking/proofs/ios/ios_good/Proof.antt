@@ -73,7 +73,7 @@ loop-again c = let a = c .before .before .before .before .before .before .before
 
 -- src/ios.rt:52:13
 returns : tie.Need-returns Inv-loop μ-loop
-returns c = let a = c .before .before .before .before .before .before .args in let p = c .before .before .before .before .loop in ios-off (a .ios .now) (p .i) (p .s) (a .n) (c .before .before .before .loop-test .taken) (rw (rest-all (a .ios .now) (p .i * 3)) at (sym (c .before .io-good .ensures) ∙ c .if1 .left)) ∙ p .inv .is
+returns c = let a = c .before .before .before .before .before .before .args in let p = c .before .before .before .before .loop in (ios-off (a .ios .now) (p .i) (p .s) (a .n) (c .before .before .before .loop-test .taken) (rw (rest-all (a .ios .now) (p .i * 3)) at (sym (c .before .io-good .ensures) ∙ c .if1 .left)) ∙ p .inv .is, omega arith)
 
 -- src/ios.rt:55:25
 mul-blank-words : tie.Need-mul-blank-words Inv-loop μ-loop
@@ -85,11 +85,11 @@ blank-words-requires c κs = search needs
 
 -- src/ios.rt:56:9
 returns-2 : tie.Need-returns-2 Inv-loop μ-loop
-returns-2 c = let a = c .before .before .before .before .before .args in let p = c .before .before .before .loop in (rw (sym (c .before .blank-words .ensures) ∙ c .if2 .taken) at (ios-end (a .ios .now) (p .i) (p .s) (a .n) (c .before .before .loop-test .left))) ∙ p .inv .is
+returns-2 c = let a = c .before .before .before .before .before .args in let p = c .before .before .before .loop in ((rw (sym (c .before .blank-words .ensures) ∙ c .if2 .taken) at (ios-end (a .ios .now) (p .i) (p .s) (a .n) (c .before .before .loop-test .left))) ∙ p .inv .is, p .inv .s-room)
 
 -- src/ios.rt:40:1
 returns-3 : tie.Need-returns-3 Inv-loop μ-loop
-returns-3 c = let a = c .before .before .before .before .before .args in let p = c .before .before .before .loop in (rw (sym (c .before .blank-words .ensures) ∙ c .if2 .left) at (ios-end (a .ios .now) (p .i) (p .s) (a .n) (c .before .before .loop-test .left))) ∙ p .inv .is
+returns-3 c = let a = c .before .before .before .before .before .args in let p = c .before .before .before .loop in ((rw (sym (c .before .blank-words .ensures) ∙ c .if2 .left) at (ios-end (a .ios .now) (p .i) (p .s) (a .n) (c .before .before .loop-test .left))) ∙ p .inv .is, omega arith)
 
 pub ios-good-spec : {M : Type 1} → statement M
 ios-good-spec =

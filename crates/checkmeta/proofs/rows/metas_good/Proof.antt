@@ -111,7 +111,7 @@ loop-again c = let a = c .before .before .before .before .before .before .before
 
 -- src/rows.rt:136:13
 returns : tie.Need-returns Inv-loop μ-loop
-returns c = let a = c .before .before .before .before .before .before .before .before .args in let p = c .before .before .before .before .loop in walk-off (a .members .now) (a .bits .now) (a .metas .now) (p .i) (p .s) (p .m) (p .b) (a .n) (c .before .before .before .loop-test .taken) (rw (rest-all (a .metas .now) (p .i * 16)) at (sym (c .before .meta-good .ensures) ∙ c .if1 .left)) ∙ p .inv .is
+returns c = let a = c .before .before .before .before .before .before .before .before .args in let p = c .before .before .before .before .loop in (walk-off (a .members .now) (a .bits .now) (a .metas .now) (p .i) (p .s) (p .m) (p .b) (a .n) (c .before .before .before .loop-test .taken) (rw (rest-all (a .metas .now) (p .i * 16)) at (sym (c .before .meta-good .ensures) ∙ c .if1 .left)) ∙ p .inv .is, omega arith)
 
 -- src/rows.rt:139:27
 mul-blank-words : tie.Need-mul-blank-words Inv-loop μ-loop
@@ -123,11 +123,11 @@ blank-words-requires c κs = search needs
 
 -- src/rows.rt:140:9
 returns-2 : tie.Need-returns-2 Inv-loop μ-loop
-returns-2 c = let a = c .before .before .before .before .before .before .before .args in let p = c .before .before .before .loop in (rw (sym (c .before .blank-words .ensures) ∙ c .if2 .taken) at (walk-end (a .members .now) (a .bits .now) (a .metas .now) (p .i) (p .s) (p .m) (p .b) (a .n) (c .before .before .loop-test .left))) ∙ p .inv .is
+returns-2 c = let a = c .before .before .before .before .before .before .before .args in let p = c .before .before .before .loop in ((rw (sym (c .before .blank-words .ensures) ∙ c .if2 .taken) at (walk-end (a .members .now) (a .bits .now) (a .metas .now) (p .i) (p .s) (p .m) (p .b) (a .n) (c .before .before .loop-test .left))) ∙ p .inv .is, p .inv .s-room)
 
 -- src/rows.rt:120:1
 returns-3 : tie.Need-returns-3 Inv-loop μ-loop
-returns-3 c = let a = c .before .before .before .before .before .before .before .args in let p = c .before .before .before .loop in (rw (sym (c .before .blank-words .ensures) ∙ c .if2 .left) at (walk-end (a .members .now) (a .bits .now) (a .metas .now) (p .i) (p .s) (p .m) (p .b) (a .n) (c .before .before .loop-test .left))) ∙ p .inv .is
+returns-3 c = let a = c .before .before .before .before .before .before .before .args in let p = c .before .before .before .loop in ((rw (sym (c .before .blank-words .ensures) ∙ c .if2 .left) at (walk-end (a .members .now) (a .bits .now) (a .metas .now) (p .i) (p .s) (p .m) (p .b) (a .n) (c .before .before .loop-test .left))) ∙ p .inv .is, omega arith)
 
 pub metas-good-spec : {M : Type 1} → statement M
 metas-good-spec =
