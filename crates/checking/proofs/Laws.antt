@@ -5,7 +5,7 @@ use mathlib.Core.List.{List, [], _∷_}
 use Prim.Native.Nat.{ℕ, zero, suc, _+_, _-_, _*_, _<_, _≤_}
 use native.Mathlib.Omega.{arith}
 use native.Mathlib.Decide.{ℕ-discrete}
-use native.Mathlib.Nat.{add-zero}
+use native.Mathlib.Nat.{add-zero, zero-add}
 use lib.Dec.{eqb, leb}
 use lib.ListN.{length, drop, take, getD}
 use lib.Seq.{getD-drop}
@@ -19,7 +19,13 @@ use Rattle.netlist.specs.Rules.{taken, distinct}
 use Rattle.netlist.specs.View.{word}
 use Rattle.checkmeta.specs.Walk.{lies}
 use Rattle.checkmeta.proofs.Laws.{lies-is, part-is}
-use Rattle.checking.specs.Names.{ioName, cellName, ioNamesIn, cellNamesIn}
+use Rattle.checkcells.specs.Walk.{cellPlaced, cellGood, cellsWalk}
+use Rattle.checkcells.specs.declared.cells.Judged.{Judged}
+use Rattle.checkcells.specs.declared.cells.Judged.the-variants as verdict
+use Rattle.checkcells.specs.declared.cells.Cells.{Cells}
+use Rattle.checkcells.specs.declared.cells.Cells.the-variants as cells
+use Rattle.checkcells.proofs.Laws.{placed-is, good-placed}
+use Rattle.checking.specs.Names.{ioName, cellName, ioNamesIn, cellNamesIn, IosNamed, CellsNamed}
 use Rattle.checking.specs.Walk.{ioGood, iosWalk}
 use Rattle.checking.specs.declared.ios.Upto.{Upto}
 use Rattle.checking.specs.declared.ios.Upto.the-variants.{Wrong, At}
@@ -168,3 +174,43 @@ row-word k j x rows e = e ∙ sym (getD-drop k rows j 0)
 
 pub row-head : (k x : ℕ) (rows : List ℕ) → x ≡ getD rows k 0 → x ≡ word (drop k rows) 0
 row-head k x rows e = e ∙ sym (getD-drop k rows 0 0 ∙ rw (add-zero k))
+
+-- WHERE A WALK COMES TO ITS END the names are there
+pub ios-there : (left : ℕ) (rows : List ℕ) (i s t : ℕ) → iosWalk rows i s left ≡ At t → (j : ℕ) → j < left → word (drop ((i + j) * 3) rows) 0 + word (drop ((i + j) * 3) rows) 1 ≤ 16384
+unfolding iosWalk
+ios-there zero rows i s t w j h = absurd (omega arith)
+ios-there (suc left) rows i s t w zero h = rw (add-zero i) (bool-cases (ioGood s (drop (i * 3) rows))
+    (λ g. let p = io-placed s (drop (i * 3) rows) g in omega (arith, p .0, p .1))
+    (λ g. let d : Wrong ≡ At t = rw (g, iosWalk) at w in let z : _≡_ {A = ℕ} 0 1 = cc (d) in absurd (omega arith)))
+ios-there (suc left) rows i s t w (suc j) h = bool-cases (ioGood s (drop (i * 3) rows))
+    (λ g. let e : i + 1 + j ≡ i + suc j = omega arith in rw e at (ios-there left rows (i + 1) (s + word (drop (i * 3) rows) 1) t (rw (g, iosWalk) at w) j (omega arith)))
+    (λ g. let d : Wrong ≡ At t = rw (g, iosWalk) at w in let z : _≡_ {A = ℕ} 0 1 = cc (d) in absurd (omega arith))
+
+pub ios-named : (S : List ℕ) (n : ℕ) (rows : List ℕ) (s t : ℕ) → length S ≡ 16384 → n * 3 ≤ length rows → iosWalk rows 0 s n ≡ At t → IosNamed S n rows
+ios-named S n rows s t l h w = record {
+  long = h;
+  each = λ i k. let e : 0 + i ≡ i = zero-add i in rw l (rw e at (ios-there n rows 0 s t w i k));
+}
+
+pub cells-there : (left : ℕ) (ws bits runs : List ℕ) (metas : ℕ) (rows : List ℕ) (i s r b d o x y z v w : ℕ) → cellsWalk ws bits runs metas rows i s r b d o left ≡ cells.Ends x y z v w
+    → (j : ℕ) → j < left → word (drop ((i + j) * 9) rows) 2 + word (drop ((i + j) * 9) rows) 3 ≤ 16384
+unfolding cellsWalk
+cells-there zero ws bits runs metas rows i s r b d o x y z v w k j h = absurd (omega arith)
+cells-there (suc left) ws bits runs metas rows i s r b d o x y z v w k j h =
+    turn (λ out e. cells-there left ws bits runs metas rows (i + 1) (s + word (drop (i * 9) rows) 3) (r + (word (drop (i * 9) rows) 6 + (word (drop (i * 9) rows) 7 + word (drop (i * 9) rows) 8))) e (d + word (drop (i * 9) rows) 1) (o + out) x y z v w)
+    (cellGood ws bits runs metas s r b (drop (i * 9) rows)) refl j h
+  where
+    turn : ((out e : ℕ) → cellsWalk ws bits runs metas rows (i + 1) (s + word (drop (i * 9) rows) 3) (r + (word (drop (i * 9) rows) 6 + (word (drop (i * 9) rows) 7 + word (drop (i * 9) rows) 8))) e (d + word (drop (i * 9) rows) 1) (o + out) left ≡ cells.Ends x y z v w
+        → (j : ℕ) → j < left → word (drop ((i + 1 + j) * 9) rows) 2 + word (drop ((i + 1 + j) * 9) rows) 3 ≤ 16384)
+        → (c : Judged) → cellGood ws bits runs metas s r b (drop (i * 9) rows) ≡ c → (j : ℕ) → j < suc left → word (drop ((i + j) * 9) rows) 2 + word (drop ((i + j) * 9) rows) 3 ≤ 16384
+    turn ih verdict.Wrong g j h = let f : cells.Wrong ≡ cells.Ends x y z v w = rw (g, cellsWalk) at k in let u : _≡_ {A = ℕ} 0 1 = cc (f) in absurd (omega arith)
+    turn ih (verdict.Good out e) g zero h =
+        let p = placed-is s r (drop (i * 9) rows) (and-true (cellPlaced s r (drop (i * 9) rows)) _ (good-placed ws bits runs metas s r b (drop (i * 9) rows) out e g .1) .0) in
+        rw (add-zero i) (omega (arith, p .name, p .strings))
+    turn ih (verdict.Good out e) g (suc j) h = let q : i + 1 + j ≡ i + suc j = omega arith in rw q at (ih out e (rw (g, cellsWalk) at k) j (omega arith))
+
+pub cells-named : (S : List ℕ) (n : ℕ) (rows : List ℕ) (ws bits runs : List ℕ) (metas s x y z v w : ℕ) → length S ≡ 16384 → n * 9 ≤ length rows → cellsWalk ws bits runs metas rows 0 s 0 0 0 0 n ≡ cells.Ends x y z v w → CellsNamed S n rows
+cells-named S n rows ws bits runs metas s x y z v w l h k = record {
+  long = h;
+  each = λ i q. let e : 0 + i ≡ i = zero-add i in rw l (rw e at (cells-there n ws bits runs metas rows 0 s 0 0 0 0 x y z v w k i q));
+}

@@ -3,3 +3,4 @@
 // whatever takes tables stands above.
 pub mod ios;
 pub mod names;
+pub mod parts;

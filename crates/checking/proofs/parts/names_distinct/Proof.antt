@@ -1,0 +1,27 @@
+use borrow.Author.Needs.{needs}
+use Rattle.checking.proofs.parts.names_distinct.Statement.{statement}
+use Rattle.checking.proofs.parts.names_distinct.Tie as tie
+use Rattle.checking.proofs.parts.names_distinct.Reads as reads
+use Rattle.checking.proofs.parts.names_distinct.Lts as lts
+use Rattle.checking.proofs.names.cells_distinct.Reads as cells-distinct-reads
+use Rattle.checkmeta.proofs.fields.both.Reads as both-reads
+
+-- src/parts.rt:73:9
+cells-distinct-requires : tie.Need-cells-distinct-requires
+cells-distinct-requires c κs = search needs
+
+-- src/parts.rt:74:9
+cells-distinct-requires-2 : tie.Need-cells-distinct-requires-2
+cells-distinct-requires-2 c κs = search needs
+
+-- src/parts.rt:72:5
+both-requires : tie.Need-both-requires
+both-requires c κs = search needs
+
+-- src/parts.rt:68:1
+returns : tie.Need-returns
+returns c = rw (c .both .ensures, c .before .cells-distinct2 .ensures, c .before .before .cells-distinct .ensures)
+
+pub names-distinct-spec : {M : Type 1} → statement M
+names-distinct-spec =
+    tie.close (tie.spec cells-distinct-requires cells-distinct-requires-2 both-requires returns)
