@@ -1,0 +1,257 @@
+-- The check part by part decides whether tables are good.
+use mathlib.Core.Path.{_≡_, refl, sym, ap, _∙_, subst}
+use mathlib.Core.Bool.{Bool, true, false, not, _&&_}
+use mathlib.Core.List.{List, [], _∷_, _++_, append-assoc}
+use Prim.Native.Nat.{ℕ, zero, suc, _+_, _-_, _*_, _<_, _≤_}
+use native.Mathlib.Omega.{arith}
+use native.Mathlib.Nat.{zero-add}
+use lib.Dec.{eqb, leb}
+use lib.ListN.{length, drop, getD, length-append, length-drop}
+use lib.Seq.{drop-append-seam}
+use borrow.Author.Tests.{leb-true, le-leb, eq-eqb, eqb-true}
+use Rattle.ground.specs.Choice.{pick}
+use Rattle.ground.specs.Lists.{every, allOf, joined, total}
+use Rattle.ground.specs.Regions.{blank, fits, part}
+use Rattle.ground.proofs.Bools.{bool-cases, never-both, and-true, true-and, fact, facts}
+use Rattle.ground.proofs.Regions.{fits-on}
+use Rattle.netlist.specs.Netlist.{Run, Meta, Io, Cell, Netlist, metaStrings, stringsOf, membersOf, attrBitsOf, runsOf, runBitsOf}
+use Rattle.netlist.specs.Rules.{isByte, isNumber, distinct, ioNames, namesAs, metasSound, ioSound, cellSound, widthsOf, outputBits, roomy, valid}
+use Rattle.netlist.specs.Tables.{Tables, metaRows, ioRows, cellRows, runRows, ioStart, cellStart}
+use Rattle.netlist.specs.View.{metasIn, iosIn, cellsIn, poolIn, view}
+use Rattle.netlist.specs.Good.{laid, good}
+use Rattle.netlist.proofs.Laying.{Roomy, valid-roomy, valid-metas, valid-cells, Long}
+use Rattle.netlist.proofs.Lengths.{length-runRows}
+use Rattle.checkmeta.specs.Fields.{kindsIn}
+use Rattle.checkmeta.specs.Walk.{metasWalk}
+use Rattle.checkmeta.specs.declared.rows.Metas.{Metas}
+use Rattle.checkmeta.specs.declared.rows.Metas.the-variants as metas
+use Rattle.checkmeta.proofs.Fits.{none, same-test}
+use Rattle.checkmeta.proofs.Link as meta
+use Rattle.checkcells.specs.Runs.{widthsIn}
+use Rattle.checkcells.specs.Walk.{cellsWalk}
+use Rattle.checkcells.specs.declared.cells.Cells.{Cells}
+use Rattle.checkcells.specs.declared.cells.Cells.the-variants as cells
+use Rattle.checkcells.proofs.CellLink as cellpool
+use Rattle.checkcells.proofs.Link as cell
+use Rattle.checking.specs.Names.{ioNamesIn, cellNamesIn}
+use Rattle.checking.specs.Walk.{iosWalk}
+use Rattle.checking.specs.Parts.{metasEnd, metasPart, iosEnd, iosPart, cellsEnd, cellsPart, andThen, blankFrom, partsGood}
+use Rattle.checking.specs.declared.ios.Upto.{Upto}
+use Rattle.checking.specs.declared.ios.Upto.the-variants.{Wrong, At}
+use Rattle.checking.proofs.IoLink as io
+
+-- REGIONS: words at the front and nothing behind
+fits-blank : (xs t r : List ℕ) → t ≡ xs ++ r → blank r ≡ true → fits xs t ≡ true
+unfolding fits
+fits-blank xs t r e h = rw e (go xs)
+  where
+    go : (xs : List ℕ) → fits xs (xs ++ r) ≡ true
+    go [] = h
+    go (x ∷ xs) = fits-on x x xs (xs ++ r) refl ∙ go xs
+
+fits-split : (xs t : List ℕ) → fits xs t ≡ true → (t ≡ xs ++ drop (length xs) t) × (blank (drop (length xs) t) ≡ true)
+unfolding fits
+fits-split [] t h = (refl, h)
+fits-split (x ∷ xs) [] h = never-both h refl
+fits-split (x ∷ xs) (y ∷ t) h = bool-cases (eqb x y)
+    (λ e. let p = fits-split xs t (rw (e, fits) at h) in (rw (eqb-true x y e) (ap (λ (l : List ℕ). y ∷ l) (p .0)), p .1))
+    (λ e. never-both (rw (e, fits) at h) refl)
+
+fits-length : (xs t : List ℕ) → fits xs t ≡ true → length xs ≤ length t
+fits-length xs t h = let e = ap length (fits-split xs t h .0) in let k = length-append xs (drop (length xs) t) in omega (arith, e, k)
+
+-- a pool that begins with words and goes on at a place
+place-is : (xs t : List ℕ) (a b : ℕ) → drop a t ≡ xs ++ drop b t → a ≤ length t → b ≤ length t → b ≡ a + length xs
+place-is xs t a b e h k =
+    let d = ap length e in
+    let p = length-append xs (drop b t) in
+    let q : length (drop a t) ≡ length t - a = length-drop a t in
+    let r : length (drop b t) ≡ length t - b = length-drop b t in
+    omega (arith, d, p, q, r)
+
+-- WHAT THE PARTS TELL
+absurd-at : {P : Type 0} {s : ℕ} → Wrong ≡ At s → P
+absurd-at d = let n : _≡_ {A = ℕ} 0 1 = cc (d) in absurd (omega arith)
+
+record MetasAt (rows members bits : List ℕ) (n s : ℕ) : Type 0 where
+  most : n ≤ 512
+  m : ℕ
+  b : ℕ
+  walk : metasWalk members bits rows 0 0 0 0 n ≡ metas.Ends s m b
+  m-blank : blank (drop m members) ≡ true
+  b-blank : blank (drop b bits) ≡ true
+
+metas-at : (rows members bits : List ℕ) (n s : ℕ) → metasPart rows members bits n ≡ At s → MetasAt rows members bits n s
+unfolding metasPart
+metas-at rows members bits n s h = bool-cases (leb n 512)
+    (λ l. go (leb-true n 512 l) (metasWalk members bits rows 0 0 0 0 n) refl (rw l at h))
+    (λ l. absurd-at (rw l at h))
+  where
+    go : n ≤ 512 → (w : Metas) → metasWalk members bits rows 0 0 0 0 n ≡ w → metasEnd members bits w ≡ At s → MetasAt rows members bits n s
+    go l metas.Wrong e k = absurd-at k
+    go l (metas.Ends x m b) e k = bool-cases (blank (drop m members) && blank (drop b bits))
+        (λ p. let d : At x ≡ At s = rw p at k in let f : x ≡ s = cc (d) in let q = and-true (blank (drop m members)) (blank (drop b bits)) p in
+        record { most = l; m = m; b = b; walk = e ∙ ap (λ (u : ℕ). metas.Ends u m b) f; m-blank = q .0; b-blank = q .1 })
+        (λ p. absurd-at (rw p at k))
+
+record IosAt (rows strings : List ℕ) (n s t : ℕ) : Type 0 where
+  most : n ≤ 64
+  walk : iosWalk rows 0 s n ≡ At t
+  unique : distinct (ioNamesIn strings n rows) ≡ true
+
+ios-at : (rows strings : List ℕ) (n s t : ℕ) → iosPart rows strings n s ≡ At t → IosAt rows strings n s t
+unfolding iosPart
+ios-at rows strings n s t h = bool-cases (leb n 64)
+    (λ l. go (leb-true n 64 l) (iosWalk rows 0 s n) refl (rw l at h))
+    (λ l. absurd-at (rw l at h))
+  where
+    go : n ≤ 64 → (w : Upto) → iosWalk rows 0 s n ≡ w → iosEnd (distinct (ioNamesIn strings n rows)) w ≡ At t → IosAt rows strings n s t
+    go l Wrong e k = absurd-at k
+    go l (At x) e k = bool-cases (distinct (ioNamesIn strings n rows))
+        (λ p. record { most = l; walk = e ∙ (rw p at k); unique = p })
+        (λ p. absurd-at (rw p at k))
+
+record CellsAt (rows runs bits strings : List ℕ) (n metas s x : ℕ) : Type 0 where
+  most : n ≤ 512
+  r : ℕ
+  b : ℕ
+  d : ℕ
+  o : ℕ
+  walk : cellsWalk (widthsIn n rows) bits runs metas rows 0 s 0 0 0 0 n ≡ cells.Ends x r b d o
+  d-most : d ≤ 4096
+  o-most : o ≤ 4096
+  r-blank : blank (drop (r * 3) runs) ≡ true
+  b-blank : blank (drop b bits) ≡ true
+  inputs : distinct (cellNamesIn strings 1 n rows) ≡ true
+  outputs : distinct (cellNamesIn strings 2 n rows) ≡ true
+
+cells-at : (rows runs bits strings : List ℕ) (n metas s x : ℕ) → cellsPart rows runs bits strings n metas s ≡ At x → CellsAt rows runs bits strings n metas s x
+unfolding cellsPart
+cells-at rows runs bits strings n metas s x h = bool-cases (leb n 512)
+    (λ l. go (leb-true n 512 l) (cellsWalk (widthsIn n rows) bits runs metas rows 0 s 0 0 0 0 n) refl (rw l at h))
+    (λ l. absurd-at (rw l at h))
+  where
+    go : n ≤ 512 → (w : Cells) → cellsWalk (widthsIn n rows) bits runs metas rows 0 s 0 0 0 0 n ≡ w
+        → cellsEnd runs bits (distinct (cellNamesIn strings 1 n rows) && distinct (cellNamesIn strings 2 n rows)) w ≡ At x → CellsAt rows runs bits strings n metas s x
+    go l cells.Wrong e k = absurd-at k
+    go l (cells.Ends y r b d o) e k = bool-cases ((leb d 4096 && leb o 4096) && ((blank (drop (r * 3) runs) && blank (drop b bits)) && (distinct (cellNamesIn strings 1 n rows) && distinct (cellNamesIn strings 2 n rows))))
+        (λ p. let a : At y ≡ At x = rw p at k in let f : y ≡ x = cc (a) in
+        let q = and-true (leb d 4096 && leb o 4096) _ p in
+        let q₁ = and-true (leb d 4096) (leb o 4096) (q .0) in
+        let q₂ = and-true (blank (drop (r * 3) runs) && blank (drop b bits)) _ (q .1) in
+        let q₃ = and-true (blank (drop (r * 3) runs)) (blank (drop b bits)) (q₂ .0) in
+        let q₄ = and-true (distinct (cellNamesIn strings 1 n rows)) (distinct (cellNamesIn strings 2 n rows)) (q₂ .1) in
+        record { most = l; r = r; b = b; d = d; o = o; walk = e ∙ ap (λ (u : ℕ). cells.Ends u r b d o) f; d-most = leb-true d 4096 (q₁ .0); o-most = leb-true o 4096 (q₁ .1);
+          r-blank = q₃ .0; b-blank = q₃ .1; inputs = q₄ .0; outputs = q₄ .1 })
+        (λ p. absurd-at (rw p at k))
+
+-- tables in lent slices: of their lengths, of bytes and words
+pub record Lent (T : Tables) : Type 0 where
+  pub long : Long T
+  pub bytes : every isByte (T .strings) ≡ true
+  pub words : every isNumber (T .metas) ≡ true
+
+module _ (T : Tables) where
+  length-metas : (n : ℕ) (t : List ℕ) → length (metasIn T n t) ≡ n
+  unfolding metasIn
+  length-metas zero t = refl
+  length-metas (suc n) t = ap suc (length-metas n (drop 16 t))
+
+  length-ios : (n : ℕ) (t : List ℕ) → length (iosIn T n t) ≡ n
+  unfolding iosIn
+  length-ios zero t = refl
+  length-ios (suc n) t = ap suc (length-ios n (drop 3 t))
+
+  length-cells : (pool : List Run) (n : ℕ) (t : List ℕ) → length (cellsIn T pool n t) ≡ n
+  unfolding cellsIn
+  length-cells pool zero t = refl
+  length-cells pool (suc n) t = ap suc (length-cells pool n (drop 9 t))
+
+  meta-pools : Lent T → meta.Pools T
+  meta-pools l = record { strings = l .long .strings; members = l .long .members; bits = l .long .attrBits; bytes = l .bytes; words = l .words }
+
+  cell-pools : Lent T → cellpool.Pools T
+  cell-pools l = record { strings = l .long .strings; runs = l .long .runs; bits = l .long .runBits; bytes = l .bytes }
+
+-- WHERE EVERY PART IS RIGHT the tables are good
+module _ (T : Tables) (l : Lent T) (s t x : ℕ) (a : MetasAt (T .metas) (T .members) (T .attrBits) (T .metaCount) s) (i : IosAt (T .ios) (T .strings) (T .ioCount) s t)
+    (c : CellsAt (T .cells) (T .runs) (T .runBits) (T .strings) (T .cellCount) (T .metaCount) t x) (z : blank (drop x (T .strings)) ≡ true) where
+  abbrev ms : List Meta
+  ms = metasIn T (T .metaCount) (T .metas)
+
+  abbrev is : List Io
+  is = iosIn T (T .ioCount) (T .ios)
+
+  abbrev cs : List Cell
+  cs = cellsIn T (poolIn T) (T .cellCount) (T .cells)
+
+  abbrev names : List ℕ
+  names = metaStrings ms ++ (joined (λ (i : Io). i .name) is ++ joined (λ (c : Cell). c .name) cs)
+
+  L₁ : meta.Laid T 0 0 0 0 (T .metaCount) s (a .m) (a .b)
+  L₁ = meta.walked T (meta-pools T l) (T .metaCount) 0 0 0 0 s (a .m) (a .b) (omega arith) (omega arith) (omega arith) (omega (arith, a .most, l .long .metas)) (a .walk)
+
+  L₂ : io.Laid T 0 s (T .ioCount) t
+  L₂ = io.walked T (l .long .strings) (l .bytes) (T .ioCount) 0 s t (L₁ .s-room) (omega (arith, i .most, l .long .ios)) (i .walk)
+
+  L₃ : cell.Laid T (widthsIn (T .cellCount) (T .cells)) (T .metaCount) 0 t 0 0 0 0 (T .cellCount) x (c .r) (c .b) (c .d) (c .o)
+  L₃ = cell.walked T (cell-pools T l) (widthsIn (T .cellCount) (T .cells)) (T .metaCount) (T .cellCount) 0 t 0 0 0 0 x (c .r) (c .b) (c .d) (c .o) (L₂ .s-room) (omega arith) (omega (arith, c .most, l .long .cells)) (c .walk)
+
+  s-is : s ≡ length (metaStrings ms)
+  s-is = place-is (metaStrings ms) (T .strings) 0 s (L₁ .strings) (omega arith) (omega (arith, L₁ .s-room, l .long .strings)) ∙ zero-add _
+
+  t-is : t ≡ length (metaStrings ms) + length (joined (λ (i : Io). i .name) is)
+  t-is = place-is (joined (λ (i : Io). i .name) is) (T .strings) s t (L₂ .strings) (omega (arith, L₁ .s-room, l .long .strings)) (omega (arith, L₂ .s-room, l .long .strings)) ∙ rw s-is
+
+  strings-are : T .strings ≡ names ++ drop x (T .strings)
+  strings-are = L₁ .strings ∙ ap (λ (u : List ℕ). metaStrings ms ++ u) (L₂ .strings ∙ ap (λ (u : List ℕ). joined (λ (i : Io). i .name) is ++ u) (L₃ .strings)) ∙ simp append-assoc
+
+  short-of : {A : Type 0} (xs p r : List A) → p ≡ xs ++ r → length xs ≤ length p
+  short-of xs p r e = let d = ap length e in let k = length-append xs r in omega (arith, d, k)
+
+  is-laid : laid (view T) T ≡ true
+  unfolding laid view
+  is-laid =
+      let f₂ : fits (ioRows (length (metaStrings ms)) is) (T .ios) ≡ true = rw s-is at (L₂ .rows) in
+      let f₃ : fits (cellRows (length (metaStrings ms) + length (joined (λ (i : Io). i .name) is)) 0 cs) (T .cells) ≡ true = rw t-is at (L₃ .rows) in
+      facts _ _ (L₁ .rows) (facts _ _ (fits-blank (membersOf ms) (T .members) (drop (a .m) (T .members)) (L₁ .members) (a .m-blank)) (facts _ _ f₂ (facts _ _ f₃
+      (facts _ _ (fits-blank (runRows 0 (runsOf cs)) (T .runs) (drop (c .r * 3) (T .runs)) (L₃ .runs) (c .r-blank))
+      (facts _ _ (fits-blank names (T .strings) (drop x (T .strings)) strings-are z)
+      (facts _ _ (fits-blank (attrBitsOf ms) (T .attrBits) (drop (a .b) (T .attrBits)) (L₁ .bits) (a .b-blank))
+      (facts _ _ (fits-blank (runBitsOf (runsOf cs)) (T .runBits) (drop (c .b) (T .runBits)) (L₃ .bits) (c .b-blank)) none)))))))
+
+  is-roomy : roomy (view T) ≡ true
+  unfolding roomy view
+  is-roomy =
+      let n₁ = length-cells T (poolIn T) (T .cellCount) (T .cells) in
+      let n₂ = length-metas T (T .metaCount) (T .metas) in
+      let n₃ = length-ios T (T .ioCount) (T .ios) in
+      let d : c .d ≡ 0 + total (λ (c : Cell). c .width) cs = L₃ .wide in
+      let o : c .o ≡ 0 + total outputBits cs = L₃ .outs in
+      let r : c .r ≡ 0 + length (runsOf cs) = L₃ .many in
+      let m = short-of (membersOf ms) (T .members) (drop (a .m) (T .members)) (L₁ .members) in
+      let k = short-of names (T .strings) (drop x (T .strings)) strings-are in
+      facts _ _ (le-leb (length cs) 512 (omega (arith, n₁, c .most)))
+      (facts _ _ (le-leb (total (λ (c : Cell). c .width) cs) 4096 (omega (arith, d, c .d-most)))
+      (facts _ _ (le-leb (total outputBits cs) 4096 (omega (arith, o, c .o-most)))
+      (facts _ _ (le-leb (length (runsOf cs)) 4096 (omega (arith, r, L₃ .r-room)))
+      (facts _ _ (le-leb (length ms) 512 (omega (arith, n₂, a .most)))
+      (facts _ _ (le-leb (length (membersOf ms)) 1024 (omega (arith, m, l .long .members)))
+      (facts _ _ (le-leb (length is) 64 (omega (arith, n₃, i .most)))
+      (facts _ _ (L₁ .short) (facts _ _ (L₂ .short) (facts _ _ (L₃ .short)
+      (facts _ _ (le-leb (length names) 16384 (omega (arith, k, l .long .strings))) none))))))))))
+
+  is-valid : valid (view T) ≡ true
+  unfolding valid view kindsIn
+  is-valid =
+      let w : widthsIn (T .cellCount) (T .cells) ≡ widthsOf cs = cell.widths-are T (poolIn T) (T .cellCount) (T .cells) in
+      let n : T .metaCount ≡ length ms = sym (length-metas T (T .metaCount) (T .metas)) in
+      let e₃ : distinct (ioNames is) ≡ true = rw (io.io-names T (T .ioCount) (T .ios)) at (i .unique) in
+      let e₄ : every (cellSound (widthsOf cs) (length ms)) cs ≡ true = subst (λ (u : ℕ). every (cellSound (widthsOf cs) u) cs ≡ true) n (subst (λ (u : List ℕ). every (cellSound u (T .metaCount)) cs ≡ true) w (L₃ .sound)) in
+      let e₅ : distinct (namesAs 1 cs) ≡ true = rw (io.cell-names T (poolIn T) 1 (T .cellCount) (T .cells)) at (c .inputs) in
+      let e₆ : distinct (namesAs 2 cs) ≡ true = rw (io.cell-names T (poolIn T) 2 (T .cellCount) (T .cells)) at (c .outputs) in
+      facts _ _ is-roomy (facts _ _ (L₁ .sound) (facts _ _ (L₂ .sound) (facts _ _ e₃ (facts _ _ e₄ (facts _ _ e₅ (facts _ _ e₆ none))))))
+
+  is-good : good T ≡ true
+  unfolding good
+  is-good = true-and _ _ is-laid is-valid
