@@ -255,3 +255,174 @@ module _ (T : Tables) (l : Lent T) (s t x : ℕ) (a : MetasAt (T .metas) (T .mem
   is-good : good T ≡ true
   unfolding good
   is-good = true-and _ _ is-laid is-valid
+
+pub parts-good : (T : Tables) → Lent T → partsGood T ≡ true → good T ≡ true
+unfolding partsGood
+parts-good T l h = go (metasPart (T .metas) (T .members) (T .attrBits) (T .metaCount)) refl
+  where
+    go₃ : (s t : ℕ) → metasPart (T .metas) (T .members) (T .attrBits) (T .metaCount) ≡ At s → iosPart (T .ios) (T .strings) (T .ioCount) s ≡ At t
+        → (u : Upto) → cellsPart (T .cells) (T .runs) (T .runBits) (T .strings) (T .cellCount) (T .metaCount) t ≡ u → good T ≡ true
+    go₃ s t p q Wrong r = never-both (rw (p, q, r) at h) refl
+    go₃ s t p q (At x) r = is-good T l s t x (metas-at _ _ _ _ s p) (ios-at _ _ _ s t q) (cells-at _ _ _ _ _ _ t x r) (rw (p, q, r) at h)
+
+    go₂ : (s : ℕ) → metasPart (T .metas) (T .members) (T .attrBits) (T .metaCount) ≡ At s → (u : Upto) → iosPart (T .ios) (T .strings) (T .ioCount) s ≡ u → good T ≡ true
+    go₂ s p Wrong q = never-both (rw (p, q) at h) refl
+    go₂ s p (At t) q = go₃ s t p q (cellsPart (T .cells) (T .runs) (T .runBits) (T .strings) (T .cellCount) (T .metaCount) t) refl
+
+    go : (u : Upto) → metasPart (T .metas) (T .members) (T .attrBits) (T .metaCount) ≡ u → good T ≡ true
+    go Wrong p = never-both (rw p at h) refl
+    go (At s) p = go₂ s p (iosPart (T .ios) (T .strings) (T .ioCount) s) refl
+
+-- AND IN GOOD TABLES every part is right
+module _ (T : Tables) (l : Lent T) (g : good T ≡ true) where
+  abbrev gms : List Meta
+  gms = metasIn T (T .metaCount) (T .metas)
+
+  abbrev gis : List Io
+  gis = iosIn T (T .ioCount) (T .ios)
+
+  abbrev gcs : List Cell
+  gcs = cellsIn T (poolIn T) (T .cellCount) (T .cells)
+
+  abbrev ios-names : List ℕ
+  ios-names = joined (λ (i : Io). i .name) gis
+
+  abbrev cell-names : List ℕ
+  cell-names = joined (λ (c : Cell). c .name) gcs
+
+  abbrev from : ℕ
+  from = length (metaStrings gms)
+
+  abbrev until : ℕ
+  until = from + length ios-names
+
+  was-laid : laid (view T) T ≡ true
+  unfolding good
+  was-laid = and-true (laid (view T) T) (valid (view T)) g .0
+
+  was-valid : valid (view T) ≡ true
+  unfolding good
+  was-valid = and-true (laid (view T) T) (valid (view T)) g .1
+
+  -- what is laid
+  record Regions : Type 0 where
+    metas : fits (metaRows 0 0 0 gms) (T .metas) ≡ true
+    members : fits (membersOf gms) (T .members) ≡ true
+    ios : fits (ioRows from gis) (T .ios) ≡ true
+    cells : fits (cellRows until 0 gcs) (T .cells) ≡ true
+    runs : fits (runRows 0 (runsOf gcs)) (T .runs) ≡ true
+    strings : fits (metaStrings gms ++ (ios-names ++ cell-names)) (T .strings) ≡ true
+    attrBits : fits (attrBitsOf gms) (T .attrBits) ≡ true
+    runBits : fits (runBitsOf (runsOf gcs)) (T .runBits) ≡ true
+
+  regions : Regions
+  unfolding laid view
+  regions = record { metas = fact _ was-laid 0; members = fact _ was-laid 1; ios = fact _ was-laid 2; cells = fact _ was-laid 3; runs = fact _ was-laid 4; strings = fact _ was-laid 5; attrBits = fact _ was-laid 6; runBits = fact _ was-laid 7 }
+
+  -- what is valid
+  record Rules : Type 0 where
+    cells-most : T .cellCount ≤ 512
+    wide : total (λ (c : Cell). c .width) gcs ≤ 4096
+    outs : total outputBits gcs ≤ 4096
+    runs : length (runsOf gcs) ≤ 4096
+    metas-most : T .metaCount ≤ 512
+    members : length (membersOf gms) ≤ 1024
+    ios-most : T .ioCount ≤ 64
+    metas-short : every (λ (m : Meta). leb (length (m .name)) 255 && leb (length (m .text)) 255) gms ≡ true
+    ios-short : every (λ (i : Io). leb (length (i .name)) 255) gis ≡ true
+    cells-short : every (λ (c : Cell). leb (length (c .name)) 255) gcs ≡ true
+    strings : length (metaStrings gms) + (length ios-names + length cell-names) ≤ 16384
+    metas-sound : metasSound (kindsIn 0 (T .metas)) gms ≡ true
+    ios-sound : every ioSound gis ≡ true
+    ios-unique : distinct (ioNamesIn (T .strings) (T .ioCount) (T .ios)) ≡ true
+    cells-sound : every (cellSound (widthsIn (T .cellCount) (T .cells)) (T .metaCount)) gcs ≡ true
+    inputs : distinct (cellNamesIn (T .strings) 1 (T .cellCount) (T .cells)) ≡ true
+    outputs : distinct (cellNamesIn (T .strings) 2 (T .cellCount) (T .cells)) ≡ true
+
+  rules : Rules
+  unfolding valid view kindsIn
+  rules =
+      let w = valid-roomy (view T) was-valid in
+      let n₁ = length-cells T (poolIn T) (T .cellCount) (T .cells) in
+      let n₂ = length-metas T (T .metaCount) (T .metas) in
+      let n₃ = length-ios T (T .ioCount) (T .ios) in
+      let a₁ : length gcs ≤ 512 = w .cells in
+      let a₂ : length gms ≤ 512 = w .metas in
+      let a₃ : length gis ≤ 64 = w .ios in
+      let k : length (metaStrings gms ++ (ios-names ++ cell-names)) ≤ 16384 = w .strings in
+      let p = length-append (metaStrings gms) (ios-names ++ cell-names) in
+      let q = length-append ios-names cell-names in
+      let e₃ : distinct (ioNames gis) ≡ true = fact _ was-valid 3 in
+      let e₄ : every (cellSound (widthsOf gcs) (length gms)) gcs ≡ true = valid-cells (view T) was-valid in
+      let e₅ : distinct (namesAs 1 gcs) ≡ true = fact _ was-valid 5 in
+      let e₆ : distinct (namesAs 2 gcs) ≡ true = fact _ was-valid 6 in
+      let v : widthsOf gcs ≡ widthsIn (T .cellCount) (T .cells) = sym (cell.widths-are T (poolIn T) (T .cellCount) (T .cells)) in
+      record {
+        cells-most = omega (arith, n₁, a₁);
+        wide = w .bits;
+        outs = w .outputs;
+        runs = w .runs;
+        metas-most = omega (arith, n₂, a₂);
+        members = w .members;
+        ios-most = omega (arith, n₃, a₃);
+        metas-short = w .metaStrings;
+        ios-short = w .ioStrings;
+        cells-short = w .cellStrings;
+        strings = omega (arith, k, p, q);
+        metas-sound = valid-metas (view T) was-valid;
+        ios-sound = fact _ was-valid 2;
+        ios-unique = rw (io.io-names T (T .ioCount) (T .ios)) e₃;
+        cells-sound = subst (λ (u : ℕ). every (cellSound (widthsIn (T .cellCount) (T .cells)) u) gcs ≡ true) n₂ (subst (λ (u : List ℕ). every (cellSound u (length gms)) gcs ≡ true) v e₄);
+        inputs = rw (io.cell-names T (poolIn T) 1 (T .cellCount) (T .cells)) e₅;
+        outputs = rw (io.cell-names T (poolIn T) 2 (T .cellCount) (T .cells)) e₆;
+      }
+
+  behind : (xs t : List ℕ) → fits xs t ≡ true → blank (drop (0 + length xs) t) ≡ true
+  behind xs t f = rw (zero-add (length xs)) (fits-split xs t f .1)
+
+  metas-right : metasPart (T .metas) (T .members) (T .attrBits) (T .metaCount) ≡ At from
+  unfolding metasPart
+  metas-right =
+      let r = regions in
+      let v = rules in
+      let A = length (attrBitsOf gms) in
+      let f : length (attrBitsOf gms) ≤ length (T .attrBits) = fits-length (attrBitsOf gms) (T .attrBits) (r .attrBits) in
+      let w = meta.walks T (meta-pools T l) (T .metaCount) 0 0 0 0 (omega (arith, v .metas-most, l .long .metas)) (r .metas) (v .metas-sound) (v .metas-short) (omega (arith, v .strings)) (omega (arith, v .members)) (omega (arith, f, l .long .attrBits)) in
+      rw (le-leb (T .metaCount) 512 (v .metas-most), w, behind (membersOf gms) (T .members) (r .members), behind (attrBitsOf gms) (T .attrBits) (r .attrBits)) (ap At (zero-add from))
+
+  pub ios-right : iosWalk (T .ios) 0 from (T .ioCount) ≡ At until
+  ios-right =
+      let r = regions in
+      let v = rules in
+      io.walks T (l .long .strings) (l .bytes) (T .ioCount) 0 from (omega (arith, v .ios-most, l .long .ios)) (r .ios) (v .ios-sound) (v .ios-short) (omega (arith, v .strings))
+
+  ios-part-right : iosPart (T .ios) (T .strings) (T .ioCount) from ≡ At until
+  unfolding iosPart
+  ios-part-right = let v = rules in rw (le-leb (T .ioCount) 64 (v .ios-most), ios-right, v .ios-unique)
+
+  cells-right : cellsPart (T .cells) (T .runs) (T .runBits) (T .strings) (T .cellCount) (T .metaCount) until ≡ At (until + length cell-names)
+  unfolding cellsPart
+  cells-right =
+      let r = regions in
+      let v = rules in
+      let f : length (runBitsOf (runsOf gcs)) ≤ length (T .runBits) = fits-length (runBitsOf (runsOf gcs)) (T .runBits) (r .runBits) in
+      let d = fits-split (runRows 0 (runsOf gcs)) (T .runs) (r .runs) in
+      let n : length (runRows 0 (runsOf gcs)) ≡ (0 + length (runsOf gcs)) * 3 = length-runRows 0 (runsOf gcs) ∙ rw (zero-add (length (runsOf gcs))) in
+      let b₁ : blank (drop ((0 + length (runsOf gcs)) * 3) (T .runs)) ≡ true = rw (← n) (d .1) in
+      let b₂ : blank (drop (0 + length (runBitsOf (runsOf gcs))) (T .runBits)) ≡ true = behind (runBitsOf (runsOf gcs)) (T .runBits) (r .runBits) in
+      let w = cell.walks T (cell-pools T l) (widthsIn (T .cellCount) (T .cells)) (T .metaCount) (T .cellCount) 0 until 0 0 0 0 (drop (length (runRows 0 (runsOf gcs))) (T .runs))
+          (omega (arith, v .cells-most, l .long .cells)) (r .cells) (d .0) (v .cells-sound) (v .cells-short) (omega (arith, v .strings)) (omega (arith, v .runs)) (omega (arith, f, l .long .runBits)) in
+      rw (le-leb (T .cellCount) 512 (v .cells-most), w, le-leb (0 + total (λ (c : Cell). c .width) gcs) 4096 (omega (arith, v .wide)), le-leb (0 + total outputBits gcs) 4096 (omega (arith, v .outs)), b₁, b₂, v .inputs, v .outputs)
+
+  all-right : partsGood T ≡ true
+  unfolding partsGood
+  all-right =
+      let r = regions in
+      let p = length-append (metaStrings gms) (ios-names ++ cell-names) in
+      let q = length-append ios-names cell-names in
+      let n : until + length cell-names ≡ length (metaStrings gms ++ (ios-names ++ cell-names)) = omega (arith, p, q) in
+      rw (metas-right, ios-part-right, cells-right, n) (fits-split (metaStrings gms ++ (ios-names ++ cell-names)) (T .strings) (r .strings) .1)
+
+-- THE CHECK DECIDES
+pub decides : (T : Tables) → Lent T → partsGood T ≡ good T
+decides T l = same-test (partsGood T) (good T) (parts-good T l) (λ g. all-right T l g)
