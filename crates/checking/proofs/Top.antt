@@ -1,31 +1,37 @@
 -- The check part by part decides whether tables are good.
-use mathlib.Core.Path.{_≡_, refl, sym, ap, _∙_, subst}
-use mathlib.Core.Bool.{Bool, true, false, not, _&&_}
+use mathlib.Core.Path.{_≡_, refl, sym, ap, ap₂, _∙_, subst}
+use mathlib.Core.Bool.{Bool, true, false, not, _&&_, _||_}
 use mathlib.Core.List.{List, [], _∷_, _++_, append-assoc}
 use Prim.Native.Nat.{ℕ, zero, suc, _+_, _-_, _*_, _<_, _≤_}
 use native.Mathlib.Omega.{arith}
 use native.Mathlib.Nat.{zero-add}
-use lib.Dec.{eqb, leb}
-use lib.ListN.{length, drop, getD, length-append, length-drop}
+use lib.Dec.{eqb, leb, ltb}
+use lib.ListN.{length, drop, take, getD, length-append, length-drop, length-take}
 use lib.Seq.{drop-append-seam}
-use borrow.Author.Tests.{leb-true, le-leb, eq-eqb, eqb-true}
+use borrow.Author.Tests.{leb-true, le-leb, eq-eqb, eqb-true, ltb-false, le-ltb}
 use Rattle.ground.specs.Choice.{pick}
 use Rattle.ground.specs.Lists.{every, allOf, joined, total}
 use Rattle.ground.specs.Regions.{blank, fits, part}
-use Rattle.ground.proofs.Bools.{bool-cases, never-both, and-true, true-and, fact, facts}
+use Rattle.ground.proofs.Bools.{bool-cases, never-both, and-true, true-and, or-false, fact, facts}
 use Rattle.ground.proofs.Regions.{fits-on}
 use Rattle.netlist.specs.Netlist.{Run, Meta, Io, Cell, Netlist, metaStrings, stringsOf, membersOf, attrBitsOf, runsOf, runBitsOf}
 use Rattle.netlist.specs.Rules.{isByte, isNumber, distinct, ioNames, namesAs, metasSound, ioSound, cellSound, widthsOf, outputBits, roomy, valid}
-use Rattle.netlist.specs.Tables.{Tables, metaRows, ioRows, cellRows, runRows, ioStart, cellStart}
-use Rattle.netlist.specs.View.{metasIn, iosIn, cellsIn, poolIn, view}
-use Rattle.netlist.specs.Good.{laid, good}
+use Rattle.netlist.specs.Tables.{Tables, metaRows, ioRows, cellRows, runRows, ioStart, cellStart, tablesIn}
+use Rattle.netlist.specs.View.{metasIn, ioIn, iosIn, cellsIn, poolIn, view}
+use Rattle.netlist.specs.Good.{laid, good, short, checkOf, ioFrom, lookupOf}
+use Rattle.netlist.specs.declared.Checked.{Checked}
+use Rattle.netlist.specs.declared.Checked.the-variants as checked
+use Rattle.netlist.specs.declared.Found.{Found}
+use Rattle.netlist.specs.declared.Found.the-variants as found
+use Rattle.ground.specs.Refusals.{at, refusal}
+use Rattle.ground.specs.Text.{same}
 use Rattle.netlist.proofs.Laying.{Roomy, valid-roomy, valid-metas, valid-cells, Long}
 use Rattle.netlist.proofs.Lengths.{length-runRows}
 use Rattle.checkmeta.specs.Fields.{kindsIn}
 use Rattle.checkmeta.specs.Walk.{metasWalk}
 use Rattle.checkmeta.specs.declared.rows.Metas.{Metas}
 use Rattle.checkmeta.specs.declared.rows.Metas.the-variants as metas
-use Rattle.checkmeta.proofs.Fits.{none, same-test}
+use Rattle.checkmeta.proofs.Fits.{none, same-test, every-take, every-part}
 use Rattle.checkmeta.proofs.Link as meta
 use Rattle.checkcells.specs.Runs.{widthsIn}
 use Rattle.checkcells.specs.Walk.{cellsWalk}
@@ -33,12 +39,13 @@ use Rattle.checkcells.specs.declared.cells.Cells.{Cells}
 use Rattle.checkcells.specs.declared.cells.Cells.the-variants as cells
 use Rattle.checkcells.proofs.CellLink as cellpool
 use Rattle.checkcells.proofs.Link as cell
-use Rattle.checking.specs.Names.{ioNamesIn, cellNamesIn}
+use Rattle.checking.specs.Names.{ioNamesIn, cellNamesIn, IosNamed}
 use Rattle.checking.specs.Walk.{iosWalk}
-use Rattle.checking.specs.Parts.{metasEnd, metasPart, iosEnd, iosPart, cellsEnd, cellsPart, andThen, blankFrom, partsGood}
+use Rattle.checking.specs.Parts.{metasEnd, metasPart, iosEnd, iosPart, cellsEnd, cellsPart, andThen, blankFrom, partsGood, regions, stringsAlone}
 use Rattle.checking.specs.declared.ios.Upto.{Upto}
 use Rattle.checking.specs.declared.ios.Upto.the-variants.{Wrong, At}
 use Rattle.checking.proofs.IoLink as io
+use Rattle.checking.proofs.Laws.{ios-named, next-row}
 
 -- REGIONS: words at the front and nothing behind
 fits-blank : (xs t r : List ℕ) → t ≡ xs ++ r → blank r ≡ true → fits xs t ≡ true
@@ -141,8 +148,20 @@ cells-at rows runs bits strings n metas s x h = bool-cases (leb n 512)
         let q₂ = and-true (blank (drop (r * 3) runs) && blank (drop b bits)) _ (q .1) in
         let q₃ = and-true (blank (drop (r * 3) runs)) (blank (drop b bits)) (q₂ .0) in
         let q₄ = and-true (distinct (cellNamesIn strings 1 n rows)) (distinct (cellNamesIn strings 2 n rows)) (q₂ .1) in
-        record { most = l; r = r; b = b; d = d; o = o; walk = e ∙ ap (λ (u : ℕ). cells.Ends u r b d o) f; d-most = leb-true d 4096 (q₁ .0); o-most = leb-true o 4096 (q₁ .1);
-          r-blank = q₃ .0; b-blank = q₃ .1; inputs = q₄ .0; outputs = q₄ .1 })
+        record {
+          most = l;
+          r = r;
+          b = b;
+          d = d;
+          o = o;
+          walk = e ∙ ap (λ (u : ℕ). cells.Ends u r b d o) f;
+          d-most = leb-true d 4096 (q₁ .0);
+          o-most = leb-true o 4096 (q₁ .1);
+          r-blank = q₃ .0;
+          b-blank = q₃ .1;
+          inputs = q₄ .0;
+          outputs = q₄ .1;
+        })
         (λ p. absurd-at (rw p at k))
 
 -- tables in lent slices: of their lengths, of bytes and words
@@ -315,9 +334,9 @@ module _ (T : Tables) (l : Lent T) (g : good T ≡ true) where
     attrBits : fits (attrBitsOf gms) (T .attrBits) ≡ true
     runBits : fits (runBitsOf (runsOf gcs)) (T .runBits) ≡ true
 
-  regions : Regions
+  all-laid : Regions
   unfolding laid view
-  regions = record { metas = fact _ was-laid 0; members = fact _ was-laid 1; ios = fact _ was-laid 2; cells = fact _ was-laid 3; runs = fact _ was-laid 4; strings = fact _ was-laid 5; attrBits = fact _ was-laid 6; runBits = fact _ was-laid 7 }
+  all-laid = record { metas = fact _ was-laid 0; members = fact _ was-laid 1; ios = fact _ was-laid 2; cells = fact _ was-laid 3; runs = fact _ was-laid 4; strings = fact _ was-laid 5; attrBits = fact _ was-laid 6; runBits = fact _ was-laid 7 }
 
   -- what is valid
   record Rules : Type 0 where
@@ -383,7 +402,7 @@ module _ (T : Tables) (l : Lent T) (g : good T ≡ true) where
   metas-right : metasPart (T .metas) (T .members) (T .attrBits) (T .metaCount) ≡ At from
   unfolding metasPart
   metas-right =
-      let r = regions in
+      let r = all-laid in
       let v = rules in
       let A = length (attrBitsOf gms) in
       let f : length (attrBitsOf gms) ≤ length (T .attrBits) = fits-length (attrBitsOf gms) (T .attrBits) (r .attrBits) in
@@ -392,7 +411,7 @@ module _ (T : Tables) (l : Lent T) (g : good T ≡ true) where
 
   pub ios-right : iosWalk (T .ios) 0 from (T .ioCount) ≡ At until
   ios-right =
-      let r = regions in
+      let r = all-laid in
       let v = rules in
       io.walks T (l .long .strings) (l .bytes) (T .ioCount) 0 from (omega (arith, v .ios-most, l .long .ios)) (r .ios) (v .ios-sound) (v .ios-short) (omega (arith, v .strings))
 
@@ -403,7 +422,7 @@ module _ (T : Tables) (l : Lent T) (g : good T ≡ true) where
   cells-right : cellsPart (T .cells) (T .runs) (T .runBits) (T .strings) (T .cellCount) (T .metaCount) until ≡ At (until + length cell-names)
   unfolding cellsPart
   cells-right =
-      let r = regions in
+      let r = all-laid in
       let v = rules in
       let f : length (runBitsOf (runsOf gcs)) ≤ length (T .runBits) = fits-length (runBitsOf (runsOf gcs)) (T .runBits) (r .runBits) in
       let d = fits-split (runRows 0 (runsOf gcs)) (T .runs) (r .runs) in
@@ -411,13 +430,13 @@ module _ (T : Tables) (l : Lent T) (g : good T ≡ true) where
       let b₁ : blank (drop ((0 + length (runsOf gcs)) * 3) (T .runs)) ≡ true = rw (← n) (d .1) in
       let b₂ : blank (drop (0 + length (runBitsOf (runsOf gcs))) (T .runBits)) ≡ true = behind (runBitsOf (runsOf gcs)) (T .runBits) (r .runBits) in
       let w = cell.walks T (cell-pools T l) (widthsIn (T .cellCount) (T .cells)) (T .metaCount) (T .cellCount) 0 until 0 0 0 0 (drop (length (runRows 0 (runsOf gcs))) (T .runs))
-          (omega (arith, v .cells-most, l .long .cells)) (r .cells) (d .0) (v .cells-sound) (v .cells-short) (omega (arith, v .strings)) (omega (arith, v .runs)) (omega (arith, f, l .long .runBits)) in
+      (omega (arith, v .cells-most, l .long .cells)) (r .cells) (d .0) (v .cells-sound) (v .cells-short) (omega (arith, v .strings)) (omega (arith, v .runs)) (omega (arith, f, l .long .runBits)) in
       rw (le-leb (T .cellCount) 512 (v .cells-most), w, le-leb (0 + total (λ (c : Cell). c .width) gcs) 4096 (omega (arith, v .wide)), le-leb (0 + total outputBits gcs) 4096 (omega (arith, v .outs)), b₁, b₂, v .inputs, v .outputs)
 
   all-right : partsGood T ≡ true
   unfolding partsGood
   all-right =
-      let r = regions in
+      let r = all-laid in
       let p = length-append (metaStrings gms) (ios-names ++ cell-names) in
       let q = length-append ios-names cell-names in
       let n : until + length cell-names ≡ length (metaStrings gms ++ (ios-names ++ cell-names)) = omega (arith, p, q) in
@@ -426,3 +445,130 @@ module _ (T : Tables) (l : Lent T) (g : good T ≡ true) where
 -- THE CHECK DECIDES
 pub decides : (T : Tables) → Lent T → partsGood T ≡ good T
 decides T l = same-test (partsGood T) (good T) (parts-good T l) (λ g. all-right T l g)
+
+-- the same, as the code finds it
+module _ (T : Tables) (l : Lent T) where
+  pub metas-wrong : metasPart (T .metas) (T .members) (T .attrBits) (T .metaCount) ≡ Wrong → false ≡ good T
+  unfolding partsGood
+  metas-wrong p = (rw p at (decides T l))
+
+  pub ios-wrong : (s : ℕ) → metasPart (T .metas) (T .members) (T .attrBits) (T .metaCount) ≡ At s → iosPart (T .ios) (T .strings) (T .ioCount) s ≡ Wrong → false ≡ good T
+  unfolding partsGood
+  ios-wrong s p q = (rw (p, q) at (decides T l))
+
+  pub cells-wrong : (s t : ℕ) → metasPart (T .metas) (T .members) (T .attrBits) (T .metaCount) ≡ At s → iosPart (T .ios) (T .strings) (T .ioCount) s ≡ At t
+      → cellsPart (T .cells) (T .runs) (T .runBits) (T .strings) (T .cellCount) (T .metaCount) t ≡ Wrong → false ≡ good T
+  unfolding partsGood
+  cells-wrong s t p q r = (rw (p, q, r) at (decides T l))
+
+  pub to-the-end : (s t x : ℕ) → metasPart (T .metas) (T .members) (T .attrBits) (T .metaCount) ≡ At s → iosPart (T .ios) (T .strings) (T .ioCount) s ≡ At t
+      → cellsPart (T .cells) (T .runs) (T .runBits) (T .strings) (T .cellCount) (T .metaCount) t ≡ At x → blank (drop x (T .strings)) ≡ good T
+  unfolding partsGood
+  to-the-end s t x p q r = (rw (p, q, r) at (decides T l))
+
+  -- in good tables the names of I/O rows are there
+  pub good-named : good T ≡ true → IosNamed (T .strings) (T .ioCount) (T .ios)
+  good-named g = let v = rules T l g in ios-named (T .strings) (T .ioCount) (T .ios) (from T l g) (until T l g) (l .long .strings) (omega (arith, v .ios-most, l .long .ios)) (ios-right T l g)
+
+-- I/O rows need the strings alone
+abbrev ioWith : List ℕ → List ℕ → Io
+ioWith strings t = record { name = part (getD t 0 0) (getD t 1 0) strings; width = getD t 2 0 }
+
+pub ios-alone : (T U : Tables) → T .strings ≡ U .strings → (n : ℕ) (t : List ℕ) → iosIn T n t ≡ iosIn U n t
+unfolding iosIn
+ios-alone T U e zero t = refl
+ios-alone T U e (suc n) t = ap₂ (λ (x : Io) (l : List Io). x ∷ l) (ap (λ (strings : List ℕ). ioWith strings t) e) (ios-alone T U e n (drop 3 t))
+
+-- THE LOOKUP, one row further
+module _ (T : Tables) (n i : ℕ) (rows name : List ℕ) (h : i < n) where
+  ios-cons : iosIn T (n - i) (drop (i * 3) rows) ≡ ioIn T (drop (i * 3) rows) ∷ (iosIn T (n - (i + 1)) (drop ((i + 1) * 3) rows))
+  unfolding iosIn
+  ios-cons = let m : n - i ≡ suc (n - (i + 1)) = omega arith in rw (m, ← next-row 3 i rows (omega arith))
+
+  pub found-here : true ≡ same (part (getD (drop (i * 3) rows) 0 0) (getD (drop (i * 3) rows) 1 0) (T .strings)) name → found.Row i (getD (drop (i * 3) rows) 2 0) ≡ ioFrom (iosIn T (n - i) (drop (i * 3) rows)) i name
+  unfolding ioFrom
+  found-here e = sym (rw (ios-cons, ← e, ioFrom))
+
+  pub found-later : false ≡ same (part (getD (drop (i * 3) rows) 0 0) (getD (drop (i * 3) rows) 1 0) (T .strings)) name → ioFrom (iosIn T (n - (i + 1)) (drop ((i + 1) * 3) rows)) (i + 1) name ≡ ioFrom (iosIn T (n - i) (drop (i * 3) rows)) i name
+  unfolding ioFrom
+  found-later e = sym (rw (ios-cons, ← e, ioFrom))
+
+pub found-none : (T : Tables) (n i : ℕ) (rows name : List ℕ) → n ≤ i → found.Refused (refusal 18 (at 0)) ≡ ioFrom (iosIn T (n - i) rows) i name
+unfolding ioFrom iosIn
+found-none T n i rows name h = let m : n - i ≡ 0 = omega arith in rw m
+
+-- LENT SLICES that are long enough hold tables of their lengths
+pub record Enough (rows strings bits : List ℕ) : Type 0 where
+  pub rows-long : 26307 ≤ length rows
+  pub strings-long : 16384 ≤ length strings
+  pub bits-long : 393728 ≤ length bits
+
+pub lent-in : (rows strings bits : List ℕ) → Enough rows strings bits → every isByte strings ≡ true → every isNumber rows ≡ true → Lent (tablesIn rows strings bits)
+unfolding tablesIn part
+lent-in rows strings bits e b w =
+    let r = e .rows-long in
+    let s = e .strings-long in
+    let t = e .bits-long in
+    record {
+      long = record {
+        metas = simp (length-take, length-drop) (omega arith);
+        members = simp (length-take, length-drop) (omega arith);
+        ios = simp (length-take, length-drop) (omega arith);
+        cells = simp (length-take, length-drop) (omega arith);
+        runs = simp (length-take, length-drop) (omega arith);
+        strings = simp (length-take, length-drop) (omega arith);
+        attrBits = simp (length-take, length-drop) (omega arith);
+        runBits = simp (length-take, length-drop) (omega arith);
+      };
+      bytes = every-take isByte 16384 strings b;
+      words = every-part isNumber 3 8192 rows w;
+    }
+
+long-enough : (n m : ℕ) → ltb n m ≡ false → m ≤ n
+long-enough n m h = ltb-false n m h
+
+-- what the check's good answer tells
+pub checked-good : (rows strings bits : List ℕ) → checkOf rows strings bits ≡ checked.Good → Enough rows strings bits × (good (tablesIn rows strings bits) ≡ true)
+unfolding checkOf short
+checked-good rows strings bits h = bool-cases (ltb (length rows) 26307 || (ltb (length strings) 16384 || ltb (length bits) 393728))
+    (λ e. let z : _≡_ {A = ℕ} 0 1 = cc (rw e at h) in absurd (omega arith))
+    (λ e. let p = or-false (ltb (length rows) 26307) _ e in
+    let q = or-false (ltb (length strings) 16384) (ltb (length bits) 393728) (p .1) in
+    bool-cases (good (tablesIn rows strings bits))
+    (λ g. (record { rows-long = long-enough _ _ (p .0); strings-long = long-enough _ _ (q .0); bits-long = long-enough _ _ (q .1) }, g))
+    (λ g. let z : _≡_ {A = ℕ} 0 1 = cc (rw (e, g) at h) in absurd (omega arith)))
+
+-- THE SLICES ARE CUT into their regions
+pub cut-length : (t : List ℕ) (a n : ℕ) → a + n ≤ length t → length (take n (drop a t)) ≡ n
+cut-length t a n h = simp (length-take, length-drop) (omega arith)
+
+abbrev pub cuts : List ℕ → List ℕ → List ℕ → ℕ → ℕ → ℕ → Tables
+cuts rows strings bits m i c = regions m i c (take 8192 (drop 3 rows)) (take 1024 (drop 8195 rows)) (take 192 (drop 9219 rows)) (take 4608 (drop 9411 rows)) (take 12288 (drop 14019 rows)) (take 16384 (drop 0 strings)) (take 131072 (drop 0 bits)) (take 262656 (drop 131072 bits))
+
+cuts-are : (rows strings bits : List ℕ) → cuts rows strings bits (getD rows 0 0) (getD rows 1 0) (getD rows 2 0) ≡ tablesIn rows strings bits
+unfolding tablesIn part
+cuts-are rows strings bits = refl
+
+module _ (rows strings bits : List ℕ) (m i c : ℕ) (p : m ≡ getD rows 0 0) (q : i ≡ getD rows 1 0) (r : c ≡ getD rows 2 0) where
+  good-cuts : good (cuts rows strings bits m i c) ≡ good (tablesIn rows strings bits)
+  good-cuts =
+      ap (λ (u : ℕ). good (cuts rows strings bits u i c)) p ∙ ap (λ (u : ℕ). good (cuts rows strings bits (getD rows 0 0) u c)) q
+      ∙ ap (λ (u : ℕ). good (cuts rows strings bits (getD rows 0 0) (getD rows 1 0) u)) r ∙ ap good (cuts-are rows strings bits)
+
+  pub check-good : 26307 ≤ length rows → 16384 ≤ length strings → 393728 ≤ length bits → true ≡ good (cuts rows strings bits m i c) → checked.Good ≡ checkOf rows strings bits
+  unfolding checkOf short
+  check-good x y z g = let k : good (tablesIn rows strings bits) ≡ true = sym (g ∙ good-cuts) in rw (le-ltb (length rows) 26307 x, le-ltb (length strings) 16384 y, le-ltb (length bits) 393728 z, k)
+
+  pub check-bad : 26307 ≤ length rows → 16384 ≤ length strings → 393728 ≤ length bits → false ≡ good (cuts rows strings bits m i c) → checked.Refused (refusal 15 (at 0)) ≡ checkOf rows strings bits
+  unfolding checkOf short
+  check-bad x y z g = let k : good (tablesIn rows strings bits) ≡ false = sym (g ∙ good-cuts) in rw (le-ltb (length rows) 26307 x, le-ltb (length strings) 16384 y, le-ltb (length bits) 393728 z, k)
+
+-- THE LOOKUP in tables that the check calls good
+module _ (rows strings bits : List ℕ) (h : checkOf rows strings bits ≡ checked.Good) (b : every isByte strings ≡ true) (w : every isNumber rows ≡ true) (i : ℕ) (q : i ≡ getD rows 1 0) where
+  pub found-named : IosNamed (take 16384 (drop 0 strings)) i (take 192 (drop 9219 rows))
+  unfolding tablesIn part
+  found-named = let k = checked-good rows strings bits h in rw q (good-named (tablesIn rows strings bits) (lent-in rows strings bits (k .0) b w) (k .1))
+
+  pub found-is : (name : List ℕ) → ioFrom (iosIn (stringsAlone (take 16384 (drop 0 strings))) i (take 192 (drop 9219 rows))) 0 name ≡ lookupOf rows strings bits name
+  unfolding lookupOf view tablesIn part
+  found-is name = rw (h, q) (ap (λ (l : List Io). ioFrom l 0 name) (ios-alone (stringsAlone (take 16384 strings)) (tablesIn rows strings bits) refl (getD rows 1 0) (take 192 (drop 9219 rows))))

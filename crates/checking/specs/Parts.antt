@@ -1,7 +1,7 @@
 -- The check of tables, part by part: the walk over each region's rows, the limits of Room, the names, and nothing behind.
 use Prim.Native.Nat.{ℕ, _*_}
 use mathlib.Core.Bool.{Bool, false, _&&_}
-use mathlib.Core.List.{List}
+use mathlib.Core.List.{List, []}
 use lib.Dec.{leb}
 use lib.ListN.{drop}
 use Rattle.ground.specs.Choice.{pick}
@@ -66,3 +66,23 @@ partsGood T =
     (andThen (metasPart (T .metas) (T .members) (T .attrBits) (T .metaCount)) (λ s.
     andThen (iosPart (T .ios) (T .strings) (T .ioCount) s) (λ t.
     cellsPart (T .cells) (T .runs) (T .runBits) (T .strings) (T .cellCount) (T .metaCount) t)))
+
+-- tables by their counts and regions
+abbrev pub regions : ℕ → ℕ → ℕ → List ℕ → List ℕ → List ℕ → List ℕ → List ℕ → List ℕ → List ℕ → List ℕ → Tables
+regions nm ni nc metas members ios cells runs strings attrs trits = record {
+  metaCount = nm;
+  ioCount = ni;
+  cellCount = nc;
+  metas = metas;
+  members = members;
+  ios = ios;
+  cells = cells;
+  runs = runs;
+  strings = strings;
+  attrBits = attrs;
+  runBits = trits;
+}
+
+-- tables of which only the strings are known, as far as I/O rows need them
+abbrev pub stringsAlone : List ℕ → Tables
+stringsAlone strings = regions 0 0 0 [] [] [] [] [] strings [] []

@@ -95,7 +95,10 @@ pub fn cells_part(
         Cells::Ends(x, r, b, d, o) => {
             if both(
                 both(d <= 4096, o <= 4096),
-                both(blank_behind(runs, bits, r, b), names_distinct(cells, strings, n)),
+                both(
+                    blank_behind(runs, bits, r, b),
+                    names_distinct(cells, strings, n),
+                ),
             ) {
                 return Upto::At(x);
             }
