@@ -12,7 +12,7 @@ use Rattle.netlist.specs.Netlist.{Meta, Netlist, indexedMeta, identMeta}
 use Rattle.netlist.specs.Good.{checkOf, netlistIn}
 use Rattle.netlist.specs.declared.Checked.{Checked}
 use Rattle.netlist.specs.declared.Checked.the-variants as checked
-use Rattle.printing.specs.Decimal.{signed}
+use Rattle.writing.specs.Decimal.{signed}
 use Rattle.naming.specs.declared.Named.{Named}
 use Rattle.naming.specs.declared.Named.the-variants as named
 

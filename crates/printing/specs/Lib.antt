@@ -1,4 +1,2 @@
-pub mod Decimal
-pub mod Words
 pub mod Lines
 pub mod Outcome

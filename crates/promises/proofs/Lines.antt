@@ -24,8 +24,8 @@ use Rattle.saying.specs.Values.{rowFrom, copies, operandRuns}
 use Rattle.saying.specs.Pieces.{operandPieces, firstUnresolved}
 use Rattle.saying.specs.Rules.{saidBy, added, firstMisnamed, ruledOut}
 use Rattle.declaring.specs.Reading.{declarationsFrom, netlistOf, readSound, reading}
-use Rattle.printing.specs.Decimal.{digits, places, signed}
-use Rattle.printing.specs.Words.{text, number, hash, escaped, quoted, trits, reference, offset, width, runs, references}
+use Rattle.writing.specs.Decimal.{digits, places, signed}
+use Rattle.writing.specs.Words.{text, number, hash, escaped, quoted, trits, reference, offset, width, runs, references}
 use Rattle.printing.specs.Lines.{option, point, metaLines, ioLines, numbersFrom, nameText, operandText, cellLine, cellLines, lines, canonical}
 use Rattle.loadlist.specs.Records.{recordsIn}
 use Rattle.loadlist.specs.Check.{goodRecord, badRecordFrom, badRecord, listedOf}

@@ -1,5 +1,6 @@
 -- Numbers in decimal, without leading zeros.
-use Prim.Native.Nat.{ℕ, zero, suc, _+_, _-_, _/_, _%_, _^_}
+use Prim.Native.Nat.{ℕ, zero, suc, _+_, _-_, _/_, _%_, _^_, _<_}
+use mathlib.Core.Path.{_≡_}
 use mathlib.Core.List.{List, [], _∷_}
 use lib.Dec.{leb}
 use Rattle.ground.specs.Choice.{pick}
@@ -24,3 +25,10 @@ decimal n = digits (places n) n
 -- a number in 32 bits, negative ones as their two's complement: "-" and the size
 unfoldable pub signed : ℕ → List ℕ
 signed n = pick (leb 2147483648 n) (45 ∷ decimal (4294967296 - n)) (decimal n)
+
+-- the digit of n at 10 ^ k, and what is left below it
+pub record SplitAt (n k digit rest : ℕ) : Type 0 where
+  pub first : digit ≡ n / 10 ^ k
+  pub after : rest ≡ n % 10 ^ k
+  pub small : digit < 10
+  pub less : rest < 10 ^ k

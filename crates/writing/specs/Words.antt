@@ -8,7 +8,7 @@ use lib.ListN.{getD, length}
 use Rattle.ground.specs.Choice.{pick}
 use Rattle.ground.specs.Text.{bytes}
 use Rattle.netlist.specs.Netlist.{Run, const, piece}
-use Rattle.printing.specs.Decimal.{decimal, signed}
+use Rattle.writing.specs.Decimal.{decimal, signed}
 
 unfoldable pub text : String → List ℕ → List ℕ
 text s k = bytes s ++ k
