@@ -8,7 +8,8 @@ use Rattle.ground.specs.Choice.{pick}
 use Rattle.kinds.specs.Kinds.{kindAt}
 use Rattle.netlist.specs.Netlist.{Run, Meta, Io, Cell, Netlist, setMeta, sourceMeta, scopeMeta, indexedMeta, identMeta, bitsMeta, integerMeta}
 use Rattle.netlist.specs.Rules.{widthsOf}
-use Rattle.writing.specs.Words.{text, number, hash, quoted, trits, reference, references, operand}
+use Rattle.writing.specs.Words.{text, number, hash, quoted, trits, reference, references}
+use Rattle.operands.specs.Operands.{operand}
 
 -- METADATA: "numbered 0, 1, .."
 unfoldable pub option : List ℕ → ℕ → List ℕ → List ℕ

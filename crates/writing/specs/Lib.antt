@@ -1,3 +1,4 @@
 pub mod Decimal
 pub mod Words
+pub mod Parts
 pub mod Stands

@@ -4,10 +4,8 @@ use Prim.Native.String.{String}
 use mathlib.Core.Bool.{Bool, true, false, not, _&&_, _||_}
 use mathlib.Core.List.{List, [], _∷_, _++_}
 use lib.Dec.{leb, ltb, eqb}
-use lib.ListN.{getD, length}
 use Rattle.ground.specs.Choice.{pick}
 use Rattle.ground.specs.Text.{bytes}
-use Rattle.netlist.specs.Netlist.{Run, const, piece}
 use Rattle.writing.specs.Decimal.{decimal, signed}
 
 unfoldable pub text : String → List ℕ → List ℕ
@@ -49,30 +47,13 @@ trits (t ∷ ts) k = tritChar t ∷ trits ts k
 unfoldable pub reference : ℕ → List ℕ → List ℕ
 reference r k = 33 ∷ number (r - 1) k
 
--- "`+o` is printed unless the run is a whole cell, `:w` unless it is 1 wide". The numbers and widths of all cells are given.
-unfoldable pub offset : Bool → ℕ → List ℕ → List ℕ
-offset whole o k = pick whole k (43 ∷ number o k)
-
-unfoldable pub width : ℕ → List ℕ → List ℕ
-width w k = pick (eqb w 1) k (58 ∷ number w k)
-
-abbrev pub run : List ℕ → List ℕ → Run → List ℕ → List ℕ
-run numbers widths (const ts) k = trits ts k
-run numbers widths (piece row o w) k =
-    37 ∷ number (getD numbers row 0) (offset (eqb o 0 && eqb w (getD widths row 0)) o (width w k))
-
--- "single spaces between tokens": a run, and each further one behind a space
-unfoldable pub runs : List ℕ → List ℕ → List Run → List ℕ → List ℕ
-runs numbers widths [] k = k
-runs numbers widths (r ∷ []) k = run numbers widths r k
-runs numbers widths (r ∷ q ∷ rs) k = run numbers widths r (32 ∷ runs numbers widths (q ∷ rs) k)
-
--- "One run stands bare, more in `[ ]`"
-abbrev pub operand : List ℕ → List ℕ → List Run → List ℕ → List ℕ
-operand numbers widths rs k = pick (eqb (length rs) 1) (runs numbers widths rs k) (91 ∷ runs numbers widths rs (93 ∷ k))
-
 -- the members of a set
 unfoldable pub references : List ℕ → List ℕ → List ℕ
 references [] k = k
 references (r ∷ []) k = reference r k
 references (r ∷ q ∷ rs) k = reference r (32 ∷ references (q ∷ rs) k)
+
+-- further members, each behind a space
+unfoldable pub moreReferences : List ℕ → List ℕ → List ℕ
+moreReferences [] k = k
+moreReferences (r ∷ rs) k = 32 ∷ reference r (moreReferences rs k)

@@ -2,5 +2,6 @@
 // gives the count after its own; a byte past the room's end is dropped and counted. It promises the text that specs/ gives. Printing
 // stands above it.
 pub mod numbers;
+pub mod references;
 pub mod room;
 pub mod strings;

@@ -17,10 +17,11 @@ pub fn wide(x: u32) -> usize
 }
 
 // Where a part of a pool ends.
-pub fn end_of(from: u32, size: u32, length: usize) -> usize
+pub fn end_of(from: usize, size: u32, length: usize) -> usize
+    requires { ⌜ from < 17179869184 ⌝ }
     ensures { λ r. ⌜ r ≡ min (from + size) length ⌝ }
 {
-    let end = wide(from) + wide(size);
+    let end = from + wide(size);
     if end < length {
         return end;
     }
@@ -70,9 +71,10 @@ fn put_byte(room: &mut [u8], n: usize, b: u8) -> usize
 fn put_bytes(room: &mut [u8], n: usize, pool: &[u8], from: u32, size: u32) -> usize
     ensures { λ r. ⌜ Wrote (now (room .entry)) n (escaped (part from size (now (pool .entry)))) (now (room .exit)) r ⌝ }
 {
-    let end = end_of(from, size, pool.len());
+    let start = wide(from);
+    let end = end_of(start, size, pool.len());
     let mut n = n;
-    let mut i = wide(from);
+    let mut i = start;
     while i < end {
         n = put_byte(room, n, pool[i]);
         i += 1;
@@ -104,9 +106,10 @@ pub fn put_trits(room: &mut [u8], n: usize, pool: &[u8], from: u32, size: u32) -
     requires { ⌜ every isTrit (now pool) ≡ true ⌝ }
     ensures { λ r. ⌜ Wrote (now (room .entry)) n (trits (part from size (now (pool .entry)))) (now (room .exit)) r ⌝ }
 {
-    let end = end_of(from, size, pool.len());
+    let start = wide(from);
+    let end = end_of(start, size, pool.len());
     let mut n = n;
-    let mut i = wide(from);
+    let mut i = start;
     while i < end {
         n = put(room, n, trit_char(pool[i]));
         i += 1;

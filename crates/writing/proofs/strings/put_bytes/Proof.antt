@@ -3,28 +3,30 @@ use mathlib.Core.Path.{_≡_, refl, _∙_}
 use native.Mathlib.Omega.{arith}
 use lib.ListN.{length}
 use Rattle.writing.specs.Stands.{Leaves}
+use Rattle.writing.specs.Parts.{upTo}
 use Rattle.writing.proofs.Stands.{start, same-rest}
 use Rattle.ground.specs.Regions.{part}
 use Rattle.writing.specs.Words.{escaped}
-use Rattle.writing.proofs.Parts.{upTo, up-start, bytes-turn, bytes-end}
+use Rattle.writing.proofs.Parts.{up-start, bytes-turn, bytes-end}
 use borrow.Author.Needs.{needs}
 use Rattle.writing.proofs.strings.put_bytes.Statement.{statement}
 use Rattle.writing.proofs.strings.put_bytes.Tie as tie
 
 abbrev Inv-loop : tie.InvT-loop
-Inv-loop room₀ n pool from size end n₀ i₀ room n' i = (length room ≡ length room₀) × (end ≤ length pool) × Leaves room₀ n (escaped (part from size pool)) room n' (escaped (upTo i end pool))
+Inv-loop room₀ n pool from size start end n₀ i₀ room n' i = (length room ≡ length room₀) × (end ≤ length pool) × Leaves room₀ n (escaped (part from size pool)) room n' (escaped (upTo i end pool))
 
 abbrev μ-loop : tie.MeasureT-loop
-μ-loop room₀ n pool from size end n₀ i₀ room n' i = end - i
-
-end-of-requires : tie.Need-end-of-requires Inv-loop μ-loop
-end-of-requires c κs = search needs
+μ-loop room₀ n pool from size start end n₀ i₀ room n' i = end - i
 
 wide-requires : tie.Need-wide-requires Inv-loop μ-loop
 wide-requires c κs = search needs
 
+end-of-requires : tie.Need-end-of-requires Inv-loop μ-loop
+end-of-requires c κs = search needs
+
 loop-holds : tie.Need-loop-holds Inv-loop μ-loop
-loop-holds c = (refl, omega (arith, c .before .end-of .ensures), same-rest (start _ _ _) (λ k. rw (c .wide .ensures .0, up-start _ _ _ _ (c .before .end-of .ensures))))
+loop-holds c = let e = c .before .wide .ensures .0 in
+    (refl, omega (arith, c .end-of .ensures), same-rest (start _ _ _) (λ k. rw (e, up-start _ _ _ _ (rw e at (c .end-of .ensures)))))
 
 shared-slice-read-put-byte : tie.Need-shared-slice-read-put-byte Inv-loop μ-loop
 shared-slice-read-put-byte c = search needs
@@ -54,8 +56,8 @@ put-bytes-spec =
     (tie.spec
     Inv-loop
     μ-loop
-    end-of-requires
     wide-requires
+    end-of-requires
     loop-holds
     shared-slice-read-put-byte
     put-byte-requires
