@@ -8,9 +8,10 @@ use Rattle.ground.specs.Text.{bytes}
 use Rattle.kinds.specs.Kinds.{kindAt}
 use Rattle.netlist.specs.Netlist.{Run, const, piece, Meta, Io, Cell, Netlist}
 use Rattle.writing.specs.Decimal.{digits, places, decimal, signed}
-use Rattle.writing.specs.Words.{text, number, hash, escaped, quoted, trits, reference, references}
+use Rattle.writing.specs.Words.{text, number, hash, escaped, quoted, trits, reference, references, option}
 use Rattle.operands.specs.Operands.{offset, width, runs, operand}
-use Rattle.printing.specs.Lines.{option, point, metaLines, ioLines, numbersFrom, nameText, operandText, cellLine, cellLines, lines, canonical}
+use Rattle.celllines.specs.CellLines.{numbersFrom, nameText, operandText, cellLine, cellLines}
+use Rattle.printing.specs.Lines.{point, metaLines, ioLines, lines, canonical}
 
 -- a printed form, and how it reads
 pub record Shown : Type 0 where

@@ -2,20 +2,15 @@
 use Prim.Native.Nat.{ℕ, _+_}
 use mathlib.Core.Bool.{Bool, _&&_}
 use mathlib.Core.List.{List, [], _∷_, _++_}
-use lib.Dec.{leb, eqb}
+use lib.Dec.{eqb}
 use lib.ListN.{length}
 use Rattle.ground.specs.Choice.{pick}
-use Rattle.kinds.specs.Kinds.{kindAt}
-use Rattle.netlist.specs.Netlist.{Run, Meta, Io, Cell, Netlist, setMeta, sourceMeta, scopeMeta, indexedMeta, identMeta, bitsMeta, integerMeta}
+use Rattle.netlist.specs.Netlist.{Meta, Io, Netlist, setMeta, sourceMeta, scopeMeta, indexedMeta, identMeta, bitsMeta, integerMeta}
 use Rattle.netlist.specs.Rules.{widthsOf}
-use Rattle.writing.specs.Words.{text, number, hash, quoted, trits, reference, references}
-use Rattle.operands.specs.Operands.{operand}
+use Rattle.writing.specs.Words.{text, number, hash, quoted, trits, reference, references, option}
+use Rattle.celllines.specs.CellLines.{numbersFrom, cellLines}
 
--- METADATA: "numbered 0, 1, .."
-unfoldable pub option : List ℕ → ℕ → List ℕ → List ℕ
-option word r k = pick (eqb r 0) k (word ++ reference r k)
-
--- `(#<line> #<column>)`
+-- METADATA: "numbered 0, 1, .."; `(#<line> #<column>)` is a place of a source
 unfoldable pub point : ℕ → ℕ → List ℕ → List ℕ
 point line column k = 40 ∷ hash line (32 ∷ hash column (41 ∷ k))
 
@@ -71,34 +66,6 @@ unfoldable pub ioLines : List Io → List ℕ → List ℕ
 ioLines [] k = k
 ioLines (i ∷ is) k = ioLine i (ioLines is k)
 
--- CELLS: "a cell's number is the sum over earlier cells of the greater of 1 and its width"
-unfoldable pub numbersFrom : ℕ → List Cell → List ℕ
-numbersFrom n [] = []
-numbersFrom n (c ∷ cs) = n ∷ numbersFrom (n + pick (eqb (c .width) 0) 1 (c .width)) cs
-
--- what a kind does not have is not printed
-unfoldable pub nameText : Bool → List ℕ → List ℕ → List ℕ
-nameText given name k = pick given (32 ∷ quoted name k) k
-
-unfoldable pub operandText : Bool → List ℕ → List ℕ → List Run → List ℕ → List ℕ
-operandText given numbers widths rs k = pick given (32 ∷ operand numbers widths rs k) k
-
--- "declarations always have `:w`"
-unfoldable pub cellLine : List ℕ → List ℕ → ℕ → Cell → List ℕ → List ℕ
-cellLine numbers widths n c k =
-    let kind = kindAt (c .kind) in
-    37 ∷ number n (58 ∷ number (c .width) (text " = " (text (kind .word)
-    (nameText (kind .named) (c .name)
-    (operandText (leb 1 (kind .operands)) numbers widths (c .a)
-    (operandText (leb 2 (kind .operands)) numbers widths (c .b)
-    (operandText (leb 3 (kind .operands)) numbers widths (c .c)
-    (option (32 ∷ []) (c .meta) (10 ∷ k)))))))))
-
-unfoldable pub cellLines : List ℕ → List ℕ → List ℕ → List Cell → List ℕ
-cellLines numbers widths [] cs = []
-cellLines numbers widths (n ∷ ns) [] = []
-cellLines numbers widths (n ∷ ns) (c ∷ cs) = cellLine numbers widths n c (cellLines numbers widths ns cs)
-
 -- THE CANONICAL TEXT. "No declarations: one LF."
 abbrev pub isBare : Netlist → Bool
 isBare N = eqb (length (N .metas)) 0 && (eqb (length (N .ios)) 0 && eqb (length (N .cells)) 0)
@@ -106,7 +73,7 @@ isBare N = eqb (length (N .metas)) 0 && (eqb (length (N .ios)) 0 && eqb (length 
 unfoldable pub lines : Netlist → List ℕ
 lines N =
     metaLines 0 (N .metas) (ioLines (N .ios)
-    (cellLines (numbersFrom 0 (N .cells)) (widthsOf (N .cells)) (numbersFrom 0 (N .cells)) (N .cells)))
+    (cellLines (numbersFrom 0 (N .cells)) (widthsOf (N .cells)) (numbersFrom 0 (N .cells)) (N .cells) []))
 
 unfoldable pub canonical : Netlist → List ℕ
 canonical N = pick (isBare N) (10 ∷ []) (lines N)

@@ -8,10 +8,11 @@ ghost use Rattle.ground.specs.Lists.{every};
 ghost use Rattle.netlist.specs.Rules.{isTrit};
 ghost use Rattle.netlist.specs.View.{metaIn, metasIn};
 ghost use Rattle.writing.specs.Stands.{Wrote};
-ghost use Rattle.printing.specs.Lines.{option, point, scopeLine, setText, sourceText, scopeText, indexedText, identText, attrValue, attrText, metaBody, metaLine, metaLines};
+ghost use Rattle.printing.specs.Lines.{point, scopeLine, setText, sourceText, scopeText, indexedText, identText, attrValue, attrText, metaBody, metaLine, metaLines};
 ghost use Rattle.printing.specs.Pools.{pools};
 use writing::numbers::put_hash;
 use writing::numbers::put_number;
+use writing::references::put_option;
 use writing::references::put_reference;
 use writing::references::put_references;
 use writing::room::put;
@@ -19,17 +20,6 @@ use writing::room::put_all;
 use writing::strings::put_quoted;
 use writing::strings::put_trits;
 use writing::strings::wide;
-
-// An optional reference behind its word.
-pub fn put_option(room: &mut [u8], n: usize, word: &[u8], to: u32) -> usize
-    ensures { λ r. ⌜ Wrote (now (room .entry)) n (option (now (word .entry)) to) (now (room .exit)) r ⌝ }
-{
-    if to == 0 {
-        return n;
-    }
-    let m = put_all(room, n, word);
-    put_reference(room, m, to)
-}
 
 // `(#<line> #<column>)`
 fn put_point(room: &mut [u8], n: usize, line: u32, column: u32) -> usize

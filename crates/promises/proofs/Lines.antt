@@ -25,9 +25,10 @@ use Rattle.saying.specs.Pieces.{operandPieces, firstUnresolved}
 use Rattle.saying.specs.Rules.{saidBy, added, firstMisnamed, ruledOut}
 use Rattle.declaring.specs.Reading.{declarationsFrom, netlistOf, readSound, reading}
 use Rattle.writing.specs.Decimal.{digits, places, signed}
-use Rattle.writing.specs.Words.{text, number, hash, escaped, quoted, trits, reference, references}
+use Rattle.writing.specs.Words.{text, number, hash, escaped, quoted, trits, reference, references, option}
 use Rattle.operands.specs.Operands.{offset, width, runs}
-use Rattle.printing.specs.Lines.{option, point, metaLines, ioLines, numbersFrom, nameText, operandText, cellLine, cellLines, lines, canonical}
+use Rattle.celllines.specs.CellLines.{numbersFrom, nameText, operandText, cellLine, cellLines}
+use Rattle.printing.specs.Lines.{point, metaLines, ioLines, lines, canonical}
 use Rattle.loadlist.specs.Records.{recordsIn}
 use Rattle.loadlist.specs.Check.{goodRecord, badRecordFrom, badRecord, listedOf}
 use Rattle.loadlist.specs.Run.{slotsFrom, outputsIn, runOf}

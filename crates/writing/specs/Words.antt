@@ -57,3 +57,7 @@ references (r ∷ q ∷ rs) k = reference r (32 ∷ references (q ∷ rs) k)
 unfoldable pub moreReferences : List ℕ → List ℕ → List ℕ
 moreReferences [] k = k
 moreReferences (r ∷ rs) k = 32 ∷ reference r (moreReferences rs k)
+
+-- an optional reference behind its word
+unfoldable pub option : List ℕ → ℕ → List ℕ → List ℕ
+option word r k = pick (eqb r 0) k (word ++ reference r k)

@@ -5,10 +5,11 @@ ghost use Prim.Native.Nat.{ℕ, _-_, _≤_};
 ghost use lib.ListN.{length};
 ghost use Rattle.ground.specs.Regions.{part};
 ghost use Rattle.writing.specs.Parts.{upTo};
-ghost use Rattle.writing.specs.Words.{reference, references, moreReferences};
+ghost use Rattle.writing.specs.Words.{reference, references, moreReferences, option};
 ghost use Rattle.writing.specs.Stands.{Wrote};
 use super::numbers::put_number;
 use super::room::put;
+use super::room::put_all;
 use super::strings::end_of;
 use super::strings::wide;
 
@@ -56,4 +57,15 @@ pub fn put_references(room: &mut [u8], n: usize, members: &[u32], from: u32, siz
         return put_more_references(room, m, members, start + 1, end);
     }
     n
+}
+
+// An optional reference behind its word.
+pub fn put_option(room: &mut [u8], n: usize, word: &[u8], to: u32) -> usize
+    ensures { λ r. ⌜ Wrote (now (room .entry)) n (option (now (word .entry)) to) (now (room .exit)) r ⌝ }
+{
+    if to == 0 {
+        return n;
+    }
+    let m = put_all(room, n, word);
+    put_reference(room, m, to)
 }

@@ -1,9 +1,9 @@
 use borrow.Author.Tests.{eq-eqb, ne-eqb}
 use Rattle.writing.proofs.Stands.{then, same-text, nothing}
-use Rattle.printing.specs.Lines.{option}
+use Rattle.writing.specs.Words.{option}
 use borrow.Author.Needs.{needs}
-use Rattle.printing.proofs.metas.put_option.Statement.{statement}
-use Rattle.printing.proofs.metas.put_option.Tie as tie
+use Rattle.writing.proofs.references.put_option.Statement.{statement}
+use Rattle.writing.proofs.references.put_option.Tie as tie
 
 returns : tie.Need-returns
 unfolding option
