@@ -10,7 +10,8 @@ use Rattle.netlist.specs.Netlist.{Run, const, piece, Meta, Io, Cell, Netlist}
 use Rattle.writing.specs.Decimal.{digits, places, decimal, signed}
 use Rattle.writing.specs.Words.{text, number, hash, escaped, quoted, trits, reference, references, option}
 use Rattle.operands.specs.Operands.{offset, width, runs, operand}
-use Rattle.celllines.specs.CellLines.{numbersFrom, nameText, operandText, cellLine, cellLines}
+use Rattle.numbering.specs.Numbers.{numbersFrom}
+use Rattle.celllines.specs.CellLines.{nameText, operandText, cellLine, cellLines}
 use Rattle.printing.specs.Lines.{point, metaLines, ioLines, lines, canonical}
 
 -- a printed form, and how it reads

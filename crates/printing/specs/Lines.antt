@@ -8,7 +8,8 @@ use Rattle.ground.specs.Choice.{pick}
 use Rattle.netlist.specs.Netlist.{Meta, Io, Netlist, setMeta, sourceMeta, scopeMeta, indexedMeta, identMeta, bitsMeta, integerMeta}
 use Rattle.netlist.specs.Rules.{widthsOf}
 use Rattle.writing.specs.Words.{text, number, hash, quoted, trits, reference, references, option}
-use Rattle.celllines.specs.CellLines.{numbersFrom, cellLines}
+use Rattle.numbering.specs.Numbers.{numbersFrom}
+use Rattle.celllines.specs.CellLines.{cellLines}
 
 -- METADATA: "numbered 0, 1, .."; `(#<line> #<column>)` is a place of a source
 unfoldable pub point : ℕ → ℕ → List ℕ → List ℕ

@@ -27,7 +27,8 @@ use Rattle.declaring.specs.Reading.{declarationsFrom, netlistOf, readSound, rea
 use Rattle.writing.specs.Decimal.{digits, places, signed}
 use Rattle.writing.specs.Words.{text, number, hash, escaped, quoted, trits, reference, references, option}
 use Rattle.operands.specs.Operands.{offset, width, runs}
-use Rattle.celllines.specs.CellLines.{numbersFrom, nameText, operandText, cellLine, cellLines}
+use Rattle.numbering.specs.Numbers.{numbersFrom}
+use Rattle.celllines.specs.CellLines.{nameText, operandText, cellLine, cellLines}
 use Rattle.printing.specs.Lines.{point, metaLines, ioLines, lines, canonical}
 use Rattle.loadlist.specs.Records.{recordsIn}
 use Rattle.loadlist.specs.Check.{goodRecord, badRecordFrom, badRecord, listedOf}
