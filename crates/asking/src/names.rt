@@ -78,7 +78,7 @@ fn cell_named(text: &[u8], cells: &[u32], i: usize, kind: u8, from: usize, size:
     ensures { λ r. ⌜ r ≡ cellNamesake (now (text .entry)) kind from size (drop (i * 9) (now (cells .entry))) ⌝ }
 {
     let row = i * 9;
-    if word_at(cells, row) == (kind as u32) {
+    if cells[row] == (kind as u32) {
         let at = word_at(cells, row + 2) as usize;
         let long = word_at(cells, row + 3) as usize;
         return is_namesake(text, from, size, at, long);
