@@ -117,11 +117,15 @@ unfoldable pub constantOf : List ℕ → ℕ → Step
 constantOf text k = let e = spanEnd isConstant (drop k text) k in constantFrom k e (suffixAt text 42 e)
 
 -- 001, Cell identifiers and Repetitions: `%i`, `%i:w`, `%i+o`, `%i+o:w`, each with a count; a bit is 1 wide where no width is written
+abbrev pub cellTook : ℕ → Numeral → Suffix → Suffix → Suffix → Step
+cellTook k i o w c =
+    took (token cell k (i .value) 0 0 (written (o .given) (w .given) (c .given)) (o .value) (pick (w .given) (w .value) 1) (c .value)) (c .end)
+
 abbrev pub cellFrom : ℕ → Numeral → Suffix → Suffix → Suffix → Step
 cellFrom k i o w c =
     judged (eqb (i .end) (k + 1) || (o .broken || (w .broken || c .broken)))
     (i .large || (o .large || (w .large || c .large))) k
-    (took (token cell k (i .value) 0 0 (written (o .given) (w .given) (c .given)) (o .value) (pick (w .given) (w .value) 1) (c .value)) (c .end))
+    (cellTook k i o w c)
 
 abbrev pub placeholderFrom : ℕ → Numeral → Step
 placeholderFrom k i = single placeholder k (k + 1) i (i .value) (i .end + 2)

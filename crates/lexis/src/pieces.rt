@@ -4,7 +4,7 @@ ghost use mathlib.Core.Path.{_≡_};
 ghost use mathlib.Core.Bool.{true, false, _&&_};
 ghost use Prim.Native.Nat.{_+_, _<_, _≤_};
 ghost use lib.ListN.{length, drop, getD};
-ghost use Rattle.lexis.specs.Bytes.{table, within, among, isHex, isRaw};
+ghost use Rattle.lexis.specs.Bytes.{table, within, among, isDigit, isHex, isRaw};
 ghost use Rattle.lexis.specs.Pieces.{spanEnd, commentEnd, insideMove, insideEnd, grownPast, limited, numeralAt, suffixAt, takenAt, quotedAt};
 
 // A numeral: its value, or that it is past its limit, and the place past its digits.
@@ -127,6 +127,13 @@ pub(crate) fn inside_end(t: &[u8; 256], text: &[u8], at: usize) -> usize
     i
 }
 
+// A digit, by its byte: that takes fewer steps than its class.
+fn is_digit(b: u8) -> bool
+    ensures { λ r. ⌜ r ≡ isDigit b ⌝ }
+{
+    between(48, 57, b)
+}
+
 // The number n with the digit b behind it. Past its limit it stays, so that no number of digits overflows.
 fn grown(limit: u64, n: u64, b: u8) -> u64
     requires { ⌜ (limit ≤ 4294967295) × (n ≤ 42949672959) × (48 ≤ b) × (b ≤ 57) ⌝ }
@@ -158,15 +165,15 @@ fn ended(limit: u64, n: u64, end: usize) -> Numeral
 }
 
 // The numeral from a place on.
-pub(crate) fn numeral_at(t: &[u8; 256], text: &[u8], at: usize, limit: u64) -> Numeral
-    requires { ⌜ (now t ≡ table) × (limit ≤ 4294967295) ⌝ }
+pub(crate) fn numeral_at(text: &[u8], at: usize, limit: u64) -> Numeral
+    requires { ⌜ limit ≤ 4294967295 ⌝ }
     ensures { λ r. ⌜ r ≡ numeralAt limit (now (text .entry)) at ⌝ }
 {
     let mut n: u64 = 0;
     let mut i = at;
     while i < text.len() {
         let b = text[i];
-        if in_classes(t, 4, 5, b) {
+        if is_digit(b) {
             n = grown(limit, n, b);
             i += 1;
         } else {
@@ -177,14 +184,14 @@ pub(crate) fn numeral_at(t: &[u8; 256], text: &[u8], at: usize, limit: u64) -> N
 }
 
 // The part that begins with the mark at a place.
-pub(crate) fn suffix_at(t: &[u8; 256], text: &[u8], mark: u8, at: usize) -> Suffix
-    requires { ⌜ (now t ≡ table) × (0 < mark) ⌝ }
+pub(crate) fn suffix_at(text: &[u8], mark: u8, at: usize) -> Suffix
+    requires { ⌜ 0 < mark ⌝ }
     ensures { λ r. ⌜ r ≡ suffixAt (now (text .entry)) mark at ⌝ }
 {
     let b = byte_at(text, at);
     if b == mark {
         let from = at + 1;
-        let d = numeral_at(t, text, from, 65535);
+        let d = numeral_at(text, from, 65535);
         let end = d.end;
         return Suffix {
             given: true,

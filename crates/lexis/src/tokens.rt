@@ -19,13 +19,14 @@ use crate::pieces::suffix_at;
 use ground::Place;
 use ground::Refusal;
 ghost use mathlib.Core.Path.{_≡_};
-ghost use mathlib.Core.Bool.{true, false, _||_};
+ghost use mathlib.Core.Bool.{true, false, not, _||_};
 ghost use Prim.Native.Nat.{_+_, _<_, _≤_};
+ghost use lib.Dec.{eqb};
 ghost use lib.ListN.{length};
 ghost use Rattle.ground.specs.Choice.{pick};
 ghost use Rattle.lexis.specs.Bytes.{table};
 ghost use Rattle.lexis.specs.Pieces.{quotedAt};
-ghost use Rattle.lexis.specs.Tokens.{written, took, plain, refused, single, signedOf, metaOf, numberOf, constantFrom, constantOf, cellFrom, opensPlaceholder, cellOf, ioFrom, namedFrom, floatingFrom, ioOf, stringStep, wordOf, longOf, follows, standingAt, tokenAt, insideAt};
+ghost use Rattle.lexis.specs.Tokens.{written, took, plain, refused, single, signedOf, metaOf, numberOf, constantFrom, constantOf, cellTook, cellFrom, opensPlaceholder, cellOf, ioFrom, namedFrom, floatingFrom, ioOf, stringStep, wordOf, longOf, follows, standingAt, tokenAt, insideAt};
 
 fn refused(number: u8, k: usize) -> Step
     ensures { λ r. ⌜ r ≡ refused number k ⌝ }
@@ -95,12 +96,12 @@ fn one_numeral(sort: u8, k: usize, from: usize, i: Numeral, value: u32, end: usi
     took_plain(sort, k, value, 0, 0, end)
 }
 
-fn meta(t: &[u8; 256], text: &[u8], k: usize) -> Step
-    requires { ⌜ (now t ≡ table) × (k < length (now text)) ⌝ }
+fn meta(text: &[u8], k: usize) -> Step
+    requires { ⌜ k < length (now text) ⌝ }
     ensures { λ r. ⌜ r ≡ metaOf (now (text .entry)) k ⌝ }
 {
     let from = k + 1;
-    let i = numeral_at(t, text, from, 65535);
+    let i = numeral_at(text, from, 65535);
     one_numeral(6, k, from, i, i.value, i.end)
 }
 
@@ -117,18 +118,18 @@ fn signed(minus: bool, n: u32) -> u32
     n
 }
 
-fn number(t: &[u8; 256], text: &[u8], k: usize) -> Step
-    requires { ⌜ (now t ≡ table) × (k < length (now text)) ⌝ }
+fn number(text: &[u8], k: usize) -> Step
+    requires { ⌜ k < length (now text) ⌝ }
     ensures { λ r. ⌜ r ≡ numberOf (now (text .entry)) k ⌝ }
 {
     let from = k + 1;
     let b = byte_at(text, from);
     if b == 45 {
         let behind = k + 2;
-        let i = numeral_at(t, text, behind, 2147483648);
+        let i = numeral_at(text, behind, 2147483648);
         return one_numeral(5, k, behind, i, signed(true, i.value), i.end);
     }
-    let i = numeral_at(t, text, from, 2147483647);
+    let i = numeral_at(text, from, 2147483647);
     one_numeral(5, k, from, i, signed(false, i.value), i.end)
 }
 
@@ -186,7 +187,7 @@ fn constant(t: &[u8; 256], text: &[u8], k: usize) -> Step
     ensures { λ r. ⌜ r ≡ constantOf (now (text .entry)) k ⌝ }
 {
     let e = span(t, text, k, 5, 6);
-    let c = suffix_at(t, text, 42, e);
+    let c = suffix_at(text, 42, e);
     constant_from(k, e, c)
 }
 
@@ -199,17 +200,10 @@ fn or_one(given: bool, value: u32) -> u32
     1
 }
 
-// The cell identifier whose index i begins at `from`, with its parts.
-fn cell_from(k: usize, from: usize, i: Numeral, o: Suffix, w: Suffix, c: Suffix) -> Step
-    requires { ⌜ from ≡ k + 1 ⌝ }
-    ensures { λ r. ⌜ r ≡ cellFrom k i o w c ⌝ }
+// The cell identifier of good index and parts.
+fn cell_took(k: usize, i: Numeral, o: Suffix, w: Suffix, c: Suffix) -> Step
+    ensures { λ r. ⌜ r ≡ cellTook k i o w c ⌝ }
 {
-    if either(i.end == from, either(o.broken, either(w.broken, c.broken))) {
-        return refused(5, k);
-    }
-    if either(i.large, either(o.large, either(w.large, c.large))) {
-        return refused(6, k);
-    }
     let parts = written_parts(o.given, w.given, c.given);
     let width = or_one(w.given, w.value);
     Step::Took(
@@ -230,6 +224,20 @@ fn cell_from(k: usize, from: usize, i: Numeral, o: Suffix, w: Suffix, c: Suffix)
     )
 }
 
+// The cell identifier whose index i begins at `from`, with its parts.
+fn cell_from(k: usize, from: usize, i: Numeral, o: Suffix, w: Suffix, c: Suffix) -> Step
+    requires { ⌜ from ≡ k + 1 ⌝ }
+    ensures { λ r. ⌜ r ≡ cellFrom k i o w c ⌝ }
+{
+    if either(i.end == from, either(o.broken, either(w.broken, c.broken))) {
+        return refused(5, k);
+    }
+    if either(i.large, either(o.large, either(w.large, c.large))) {
+        return refused(6, k);
+    }
+    cell_took(k, i, o, w, c)
+}
+
 // `:_` at a place.
 fn opens_placeholder(text: &[u8], k: usize) -> bool
     ensures { λ r. ⌜ (r ≡ opensPlaceholder (now (text .entry)) k) × (r ≡ true → k + 1 < length (now (text .entry))) ⌝ }
@@ -245,20 +253,74 @@ fn opens_placeholder(text: &[u8], k: usize) -> bool
     false
 }
 
-fn cell(t: &[u8; 256], text: &[u8], k: usize) -> Step
-    requires { ⌜ (now t ≡ table) × (k < length (now text)) ⌝ }
+// Any cell identifier or placeholder: a part further on may be malformed where one before it is too large.
+fn cell_any(text: &[u8], k: usize) -> Step
+    requires { ⌜ k < length (now text) ⌝ }
     ensures { λ r. ⌜ r ≡ cellOf (now (text .entry)) k ⌝ }
 {
     let from = k + 1;
-    let i = numeral_at(t, text, from, 65535);
+    let i = numeral_at(text, from, 65535);
     let end = i.end;
     if opens_placeholder(text, end) {
         return one_numeral(10, k, from, i, i.value, end + 2);
     }
-    let o = suffix_at(t, text, 43, end);
-    let w = suffix_at(t, text, 58, o.end);
-    let c = suffix_at(t, text, 42, w.end);
+    let o = suffix_at(text, 43, end);
+    let w = suffix_at(text, 58, o.end);
+    let c = suffix_at(text, 42, w.end);
     cell_from(k, from, i, o, w, c)
+}
+
+// An index that no refusal and no placeholder comes of.
+fn good_index(text: &[u8], from: usize, i: Numeral) -> bool
+    ensures { λ r. ⌜ r ≡ not (eqb (i .end) from || (i .large || opensPlaceholder (now (text .entry)) (i .end))) ⌝ }
+{
+    let end = i.end;
+    if end == from {
+        return false;
+    }
+    if i.large {
+        return false;
+    }
+    if opens_placeholder(text, end) {
+        return false;
+    }
+    true
+}
+
+// A part that no refusal comes of.
+fn good_part(s: Suffix) -> bool
+    ensures { λ r. ⌜ r ≡ not (s .broken || s .large) ⌝ }
+{
+    if s.broken {
+        return false;
+    }
+    if s.large {
+        return false;
+    }
+    true
+}
+
+// A cell identifier whose parts are good as they are read needs no look back at them. Anything else is read again.
+fn cell(text: &[u8], k: usize) -> Step
+    requires { ⌜ k < length (now text) ⌝ }
+    ensures { λ r. ⌜ r ≡ cellOf (now (text .entry)) k ⌝ }
+{
+    let from = k + 1;
+    let i = numeral_at(text, from, 65535);
+    let end = i.end;
+    if good_index(text, from, i) {
+        let o = suffix_at(text, 43, end);
+        if good_part(o) {
+            let w = suffix_at(text, 58, o.end);
+            if good_part(w) {
+                let c = suffix_at(text, 42, w.end);
+                if good_part(c) {
+                    return cell_took(k, i, o, w, c);
+                }
+            }
+        }
+    }
+    cell_any(text, k)
 }
 
 // The first end where the first part is written.
@@ -309,8 +371,8 @@ fn named(t: &[u8; 256], text: &[u8], k: usize) -> Step
     let from = k + 2;
     match quoted_at(t, text, from) {
         Quoted::Closed { size, end } => {
-            let o = suffix_at(t, text, 43, end);
-            let w = suffix_at(t, text, 58, end);
+            let o = suffix_at(text, 43, end);
+            let w = suffix_at(text, 58, end);
             io_from(k, from, size, o, w)
         }
         Quoted::Malformed => refused(5, k),
@@ -351,7 +413,7 @@ fn io(t: &[u8; 256], text: &[u8], k: usize) -> Step
 {
     let b = byte_at(text, k + 1);
     if b == 95 {
-        let w = suffix_at(t, text, 58, k + 2);
+        let w = suffix_at(text, 58, k + 2);
         return floating(k, w);
     }
     if b == 34 {
@@ -372,16 +434,16 @@ fn long(t: &[u8; 256], text: &[u8], k: usize, b: u8) -> Step
         return constant(t, text, k);
     }
     if b == 35 {
-        return number(t, text, k);
+        return number(text, k);
     }
     if b == 33 {
-        return meta(t, text, k);
+        return meta(text, k);
     }
     if b == 38 {
         return io(t, text, k);
     }
     if b == 37 {
-        return cell(t, text, k);
+        return cell(text, k);
     }
     if b == 34 {
         return string(t, text, k);

@@ -11,10 +11,10 @@ use Rattle.lexis.proofs.pieces.numeral_at.Statement.{statement}
 use Rattle.lexis.proofs.pieces.numeral_at.Tie as tie
 
 abbrev Inv-loop : tie.InvT-loop
-Inv-loop t text at limit n₀ i₀ n i = (n ≤ 42949672959) × (limited limit (digitsFrom (drop i text) n i) ≡ numeralAt limit text at)
+Inv-loop text at limit n₀ i₀ n i = (n ≤ 42949672959) × (limited limit (digitsFrom (drop i text) n i) ≡ numeralAt limit text at)
 
 abbrev μ-loop : tie.MeasureT-loop
-μ-loop t text at limit n₀ i₀ n i = length text - i
+μ-loop text at limit n₀ i₀ n i = length text - i
 
 loop-holds : tie.Need-loop-holds Inv-loop μ-loop
 unfolding numeralAt
@@ -23,14 +23,14 @@ loop-holds c = (omega arith, refl)
 shared-slice-read-b : tie.Need-shared-slice-read-b Inv-loop μ-loop
 shared-slice-read-b c = search needs
 
-in-classes-requires : tie.Need-in-classes-requires Inv-loop μ-loop
-in-classes-requires c κs = search needs
+is-digit-requires : tie.Need-is-digit-requires Inv-loop μ-loop
+is-digit-requires c κs = search needs
 
 grown-requires : tie.Need-grown-requires Inv-loop μ-loop
 grown-requires c κs = let p = c .before .before .before .before in
     let i = p .loop .i in
     let d = digit-range (getD (p .before .before .args .text .now) i 0) (omega (arith, c .before .before .shared-slice-known2 .given i)) (cc) in
-    (p .before .before .pre .1, p .loop .inv .0, d .0, d .1)
+    (p .before .before .pre, p .loop .inv .0, d .0, d .1)
 
 add-i : tie.Need-add-i Inv-loop μ-loop
 add-i c = search needs
@@ -69,7 +69,7 @@ numeral-at-spec =
     μ-loop
     loop-holds
     shared-slice-read-b
-    in-classes-requires
+    is-digit-requires
     grown-requires
     add-i
     loop-less

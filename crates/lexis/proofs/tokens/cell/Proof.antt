@@ -1,6 +1,7 @@
-use native.Mathlib.Omega.{arith}
+-- Each part is asked for where the one before it ends. What is not good is read again.
+use mathlib.Core.Path.{sym, _∙_}
 use Rattle.lexis.specs.Tokens.{cellOf}
--- Each part is asked for where the one before it ends.
+use Rattle.lexis.proofs.Cells.{good-cell}
 use borrow.Author.Needs.{needs}
 use Rattle.lexis.proofs.tokens.cell.Statement.{statement}
 use Rattle.lexis.proofs.tokens.cell.Tie as tie
@@ -11,35 +12,50 @@ add-from c = search needs
 numeral-at-requires : tie.Need-numeral-at-requires
 numeral-at-requires c κs = search needs
 
-opens-placeholder-requires : tie.Need-opens-placeholder-requires
-opens-placeholder-requires c κs = search needs
-
-add-one-numeral : tie.Need-add-one-numeral
-add-one-numeral c = omega (arith, c .before .opens-placeholder .ensures .1 (c .if1 .taken))
-
-one-numeral-requires : tie.Need-one-numeral-requires
-one-numeral-requires c κs = search needs
-
-returns : tie.Need-returns
-unfolding cellOf
-returns c = rw (← c .before .before .before .numeral-at .ensures, ← c .before .before .opens-placeholder .ensures .0, c .before .if1 .taken) (c .one-numeral .ensures)
+good-index-requires : tie.Need-good-index-requires
+good-index-requires c κs = search needs
 
 suffix-at-requires : tie.Need-suffix-at-requires
 suffix-at-requires c κs = search needs
 
+good-part-requires : tie.Need-good-part-requires
+good-part-requires c κs = search needs
+
 suffix-at-requires-2 : tie.Need-suffix-at-requires-2
 suffix-at-requires-2 c κs = search needs
+
+good-part-requires-2 : tie.Need-good-part-requires-2
+good-part-requires-2 c κs = search needs
 
 suffix-at-requires-3 : tie.Need-suffix-at-requires-3
 suffix-at-requires-3 c κs = search needs
 
-cell-from-requires : tie.Need-cell-from-requires
-cell-from-requires c κs = search needs
+good-part-requires-3 : tie.Need-good-part-requires-3
+good-part-requires-3 c κs = search needs
+
+cell-took-requires : tie.Need-cell-took-requires
+cell-took-requires c κs = search needs
+
+returns : tie.Need-returns
+unfolding cellOf
+returns c = let third = c .before .before .before in
+    let second = third .before .before .before in
+    let first = second .before .before .before in
+    let index = first .before .before .before in
+    let a = index .before .before .args in
+    rw (← index .numeral-at .ensures, ← first .suffix-at .ensures, ← second .suffix-at2 .ensures, ← third .suffix-at3 .ensures)
+    (c .cell-took .ensures
+    ∙ good-cell (a .text .now) (a .k) (index .numeral-at .result) (first .suffix-at .result) (second .suffix-at2 .result) (third .suffix-at3 .result)
+    (sym (first .before .before .good-index .ensures) ∙ first .before .if1 .taken)
+    (sym (second .before .before .good-part .ensures) ∙ second .before .if2 .taken)
+    (sym (third .before .before .good-part2 .ensures) ∙ third .before .if3 .taken)
+    (sym (c .before .before .good-part3 .ensures) ∙ c .before .if4 .taken))
+
+cell-any-requires : tie.Need-cell-any-requires
+cell-any-requires c κs = search needs
 
 returns-2 : tie.Need-returns-2
-unfolding cellOf
-returns-2 c = let o = c .before .before .before in
-    rw (← o .before .before .before .numeral-at .ensures, ← o .before .before .opens-placeholder .ensures .0, o .before .if1 .left, ← o .suffix-at .ensures, ← c .before .before .suffix-at2 .ensures, ← c .before .suffix-at3 .ensures) (c .cell-from .ensures)
+returns-2 c = c .cell-any .ensures
 
 pub cell-spec : {M : Type 1} → statement M
 cell-spec =
@@ -47,12 +63,14 @@ cell-spec =
     (tie.spec
     add-from
     numeral-at-requires
-    opens-placeholder-requires
-    add-one-numeral
-    one-numeral-requires
-    returns
+    good-index-requires
     suffix-at-requires
+    good-part-requires
     suffix-at-requires-2
+    good-part-requires-2
     suffix-at-requires-3
-    cell-from-requires
+    good-part-requires-3
+    cell-took-requires
+    returns
+    cell-any-requires
     returns-2)

@@ -46,14 +46,11 @@ returns-2 c = let l = c .before .before in
       c .before .if2 .taken,
     ) (c .refused2 .ensures)
 
-written-parts-requires : tie.Need-written-parts-requires
-written-parts-requires c κs = search needs
-
-or-one-requires : tie.Need-or-one-requires
-or-one-requires c κs = search needs
+cell-took-requires : tie.Need-cell-took-requires
+cell-took-requires c κs = search needs
 
 returns-3 : tie.Need-returns-3
-returns-3 c = let l = c .before .before .before in
+returns-3 c = let l = c .before .before in
     let d = l .before .before .before .before in
     rw (
       ← d .before .before .before .before .pre,
@@ -64,10 +61,8 @@ returns-3 c = let l = c .before .before .before in
       ← l .before .before .either4 .ensures,
       ← l .before .either5 .ensures,
       ← l .either6 .ensures,
-      c .before .before .if2 .left,
-      ← c .before .written-parts .ensures,
-      ← c .or-one .ensures,
-    )
+      c .before .if2 .left,
+    ) (c .cell-took .ensures)
 
 pub cell-from-spec : {M : Type 1} → statement M
 cell-from-spec =
@@ -83,6 +78,5 @@ cell-from-spec =
     either-requires-6
     refused-requires-2
     returns-2
-    written-parts-requires
-    or-one-requires
+    cell-took-requires
     returns-3)

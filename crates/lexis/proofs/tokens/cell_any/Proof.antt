@@ -1,0 +1,58 @@
+use native.Mathlib.Omega.{arith}
+use Rattle.lexis.specs.Tokens.{cellOf}
+-- Each part is asked for where the one before it ends.
+use borrow.Author.Needs.{needs}
+use Rattle.lexis.proofs.tokens.cell_any.Statement.{statement}
+use Rattle.lexis.proofs.tokens.cell_any.Tie as tie
+
+add-from : tie.Need-add-from
+add-from c = search needs
+
+numeral-at-requires : tie.Need-numeral-at-requires
+numeral-at-requires c κs = search needs
+
+opens-placeholder-requires : tie.Need-opens-placeholder-requires
+opens-placeholder-requires c κs = search needs
+
+add-one-numeral : tie.Need-add-one-numeral
+add-one-numeral c = omega (arith, c .before .opens-placeholder .ensures .1 (c .if1 .taken))
+
+one-numeral-requires : tie.Need-one-numeral-requires
+one-numeral-requires c κs = search needs
+
+returns : tie.Need-returns
+unfolding cellOf
+returns c = rw (← c .before .before .before .numeral-at .ensures, ← c .before .before .opens-placeholder .ensures .0, c .before .if1 .taken) (c .one-numeral .ensures)
+
+suffix-at-requires : tie.Need-suffix-at-requires
+suffix-at-requires c κs = search needs
+
+suffix-at-requires-2 : tie.Need-suffix-at-requires-2
+suffix-at-requires-2 c κs = search needs
+
+suffix-at-requires-3 : tie.Need-suffix-at-requires-3
+suffix-at-requires-3 c κs = search needs
+
+cell-from-requires : tie.Need-cell-from-requires
+cell-from-requires c κs = search needs
+
+returns-2 : tie.Need-returns-2
+unfolding cellOf
+returns-2 c = let o = c .before .before .before in
+    rw (← o .before .before .before .numeral-at .ensures, ← o .before .before .opens-placeholder .ensures .0, o .before .if1 .left, ← o .suffix-at .ensures, ← c .before .before .suffix-at2 .ensures, ← c .before .suffix-at3 .ensures) (c .cell-from .ensures)
+
+pub cell-any-spec : {M : Type 1} → statement M
+cell-any-spec =
+    tie.close
+    (tie.spec
+    add-from
+    numeral-at-requires
+    opens-placeholder-requires
+    add-one-numeral
+    one-numeral-requires
+    returns
+    suffix-at-requires
+    suffix-at-requires-2
+    suffix-at-requires-3
+    cell-from-requires
+    returns-2)
