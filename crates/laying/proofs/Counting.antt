@@ -1,6 +1,7 @@
 -- The operands of a cell, one behind the other.
 -- Assumes nothing.
 use mathlib.Core.Path.{_≡_}
+use mathlib.Core.Bool.{Bool, _||_}
 use mathlib.Core.List.{List, _++_, append-assoc}
 use Prim.Native.Nat.{ℕ, _+_, _<_, _≤_}
 use native.Mathlib.Omega.{arith}
@@ -55,3 +56,6 @@ module _ (rs ra rb rc : List Run) where
   pub counted : {runs trits : List ℕ} (n : Counts) → n .a ≡ length ra → n .b ≡ length rb → n .c ≡ length rc
       → Holds (((rs ++ ra) ++ rb) ++ rc) runs trits (n .so) → Counted rs ra rb rc n runs trits
   counted n a b c h = record { a = a; b = b; c = c; holds = rw three at h }
+
+pub bare-of-three : {x y z a b c : Bool} → x ≡ a → y ≡ b → z ≡ c → x || (y || z) ≡ a || (b || c)
+bare-of-three p q r = rw (p, q, r)

@@ -25,7 +25,7 @@ use Rattle.laying.specs.Growing.{BaseIn, PartIn, PartsIn, none, more}
 
 module _ (text : List ℕ) where
   -- a token that is inside the text, where it is a part
-  token-in : (t : Token) → SoundToken text t → isPart t ≡ true → PartIn text (partOf t)
+  pub token-in : (t : Token) → SoundToken text t → isPart t ≡ true → PartIn text (partOf t)
   token-in t h part = bool-cases (leb 4 (t .parts)) (λ e. rw e base) (λ e. rw e base)
     where
       base : BaseIn text (baseOf t)
@@ -42,7 +42,7 @@ module _ (text : List ℕ) where
           (λ is. let same : partOf t ≡ p = (let f = rw is at e in cc) in subst (PartIn text) same (token-in t n is))
           (λ not. let f = rw not at e in let z : _≡_ {A = ℕ} 0 1 = cc in absurd (omega arith))
 
-  parts-in : (f k : ℕ) → PartsIn text (partsFrom f text k)
+  pub parts-in : (f k : ℕ) → PartsIn text (partsFrom f text k)
   unfolding partsFrom
   parts-in zero k = none
   parts-in (suc f) k = go (nextPart text k) refl (λ r. parts-in f (r .next .at))

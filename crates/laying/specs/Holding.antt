@@ -10,8 +10,8 @@ use Rattle.form.proofs.Sums.{widths}
 use Rattle.netlist.specs.Netlist.{Run, runBitsOf}
 use Rattle.netlist.specs.Tables.{runRows}
 use Rattle.laying.specs.declared.Laid.{Laid}
-use Rattle.laying.specs.declared.Laying.{Laying}
-use Rattle.laying.specs.declared.Laying.the-variants as laying
+use Rattle.laying.specs.declared.OperandLaying.{OperandLaying}
+use Rattle.laying.specs.declared.OperandLaying.the-variants as operandLaying
 use Rattle.laying.specs.declared.Counts.{Counts}
 use Rattle.laying.specs.declared.CellLaying.{CellLaying}
 use Rattle.laying.specs.declared.CellLaying.the-variants as cellLaying
@@ -30,9 +30,9 @@ pub record Held (runs trits : List ℕ) (so : Laid) : Type 0 where
   pub holds : Holds rs runs trits so
 
 -- the new runs stand behind the old ones; or there are more than 4,096
-abbrev pub After : List Run → List Run → Laying → List ℕ → List ℕ → Type 0
-After rs new (laying.Laid so) runs trits = Holds (rs ++ new) runs trits so
-After rs new laying.Full runs trits = 4096 < length (rs ++ new)
+abbrev pub After : List Run → List Run → OperandLaying → List ℕ → List ℕ → Type 0
+After rs new (operandLaying.Laid so bare) runs trits = Holds (rs ++ new) runs trits so
+After rs new operandLaying.Full runs trits = 4096 < length (rs ++ new)
 
 -- the three operands of a cell are no wider than an operand may be, and there is room for their trits
 pub record Room (text : List ℕ) (w : Wiring) (so : Laid) : Type 0 where

@@ -1,17 +1,21 @@
 // Laying: the operands of a declaration as longest runs in the lent tables. It promises that the rows and the trits behind those
-// in use are the runs that saying's definitions give, or that they need more than 4,096 rows. The walks over operands stand
-// below it, reading above.
+// in use are the runs that saying's definitions give, or that they need more than 4,096 rows; and it tells whether a part has no
+// bits, which leaves no run. The tokens and the form of operands stand below it, reading above.
+mod operands;
 mod parts;
 mod rows;
 pub mod trits;
 
 use form::Operand;
-use form::Walked;
 use form::Wiring;
-use form::walks::walk_of;
-use form::walks::walk_step;
-use parts::add_part;
+use form::parts::is_part;
+use ground::Place;
+use lexis::Reader;
+use lexis::Step;
+use operands::lay_alone;
+use operands::lay_within;
 ghost use mathlib.Core.Path.{_≡_};
+ghost use mathlib.Core.Bool.{_||_};
 ghost use mathlib.Core.List.{List};
 ghost use Prim.Native.Nat.{_+_, _≤_};
 ghost use lib.ListN.{length};
@@ -21,6 +25,7 @@ ghost use Rattle.form.proofs.Sums.{widths};
 ghost use Rattle.netlist.specs.Netlist.{Run};
 ghost use Rattle.saying.specs.Values.{operandRuns};
 ghost use Rattle.laying.specs.Holding.{Holds, Held, After, Room, CellAfter};
+ghost use Rattle.laying.specs.Bare.{someBare, cellBare, TellsBare, CellTellsBare};
 
 // How many run rows and run trits are in use.
 pub struct Laid {
@@ -34,12 +39,19 @@ pub enum Laying {
     Full,
 }
 
-// The runs of a cell's three operands, and what is in use now.
+// An operand: what is in use now, and whether one of its parts has no bits.
+pub enum OperandLaying {
+    Laid(Laid, bool),
+    Full,
+}
+
+// The runs of a cell's three operands, what is in use now, and whether a part of an operand has no bits.
 pub struct Counts {
     pub a: usize,
     pub b: usize,
     pub c: usize,
     pub so: Laid,
+    pub bare: bool,
 }
 
 pub enum CellLaying {
@@ -55,25 +67,36 @@ pub fn lay_operand(
     runs: &mut [u32],
     trits: &mut [u8],
     so: Laid,
-) -> Laying
+) -> OperandLaying
     requires { ⌜ (now t ≡ table) × (length (now text) ≤ 65536) × Held (now runs) (now trits) so × (widths (partsAt (now text) operand) ≤ 256) × (so .trits + widths (partsAt (now text) operand) ≤ 262656) ⌝ }
-    ensures { λ r. ⌜ ((rs : List Run) → Holds rs (now (runs .entry)) (now (trits .entry)) so → After rs (operandRuns (now (text .entry)) operand) r (now (runs .exit)) (now (trits .exit))) ⌝ }
+    ensures { λ r. ⌜ ((rs : List Run) → Holds rs (now (runs .entry)) (now (trits .entry)) so → After rs (operandRuns (now (text .entry)) operand) r (now (runs .exit)) (now (trits .exit))) × TellsBare (someBare (partsAt (now (text .entry)) operand)) r ⌝ }
 {
-    let first = so.runs;
-    let mut used = so;
-    let mut walk = walk_of(t, text, operand);
-    loop {
-        let step = walk_step(t, text, walk);
-        let Walked::Part(part, _, next) = step else {
-            return Laying::Laid(used);
+    let at = operand.at;
+    if operand.given {
+        let reader = Reader { next: Place { at } };
+        let step = reader.next_with(t, text);
+        let Step::Took(token, next) = step else {
+            return OperandLaying::Laid(so, false);
         };
-        let added = add_part(t, text, part, runs, trits, first, used);
-        let Laying::Laid(more) = added else {
-            return Laying::Full;
-        };
-        used = more;
-        walk = next;
+        if is_part(token) {
+            return lay_alone(t, text, token, runs, trits, so);
+        }
+        return lay_within(t, text, next, runs, trits, so);
     }
+    OperandLaying::Laid(so, false)
+}
+
+// Whether one of three operands has a part without bits.
+fn any_bare(a: bool, b: bool, c: bool) -> bool
+    ensures { λ r. ⌜ r ≡ (a || (b || c)) ⌝ }
+{
+    if a {
+        return true;
+    }
+    if b {
+        return true;
+    }
+    c
 }
 
 // The runs of a cell's three operands, in order, behind those in use.
@@ -86,21 +109,21 @@ pub fn lay_cell(
     so: Laid,
 ) -> CellLaying
     requires { ⌜ (now t ≡ table) × (length (now text) ≤ 65536) × Held (now runs) (now trits) so × Room (now text) w so ⌝ }
-    ensures { λ r. ⌜ ((rs : List Run) → Holds rs (now (runs .entry)) (now (trits .entry)) so → CellAfter rs (operandRuns (now (text .entry)) (w .a)) (operandRuns (now (text .entry)) (w .b)) (operandRuns (now (text .entry)) (w .c)) r (now (runs .exit)) (now (trits .exit))) ⌝ }
+    ensures { λ r. ⌜ ((rs : List Run) → Holds rs (now (runs .entry)) (now (trits .entry)) so → CellAfter rs (operandRuns (now (text .entry)) (w .a)) (operandRuns (now (text .entry)) (w .b)) (operandRuns (now (text .entry)) (w .c)) r (now (runs .exit)) (now (trits .exit))) × CellTellsBare (cellBare (now (text .entry)) w) r ⌝ }
 {
     let a = w.a;
     let b = w.b;
     let c = w.c;
     let first = lay_operand(t, text, a, runs, trits, so);
-    let Laying::Laid(one) = first else {
+    let OperandLaying::Laid(one, x) = first else {
         return CellLaying::Full;
     };
     let second = lay_operand(t, text, b, runs, trits, one);
-    let Laying::Laid(two) = second else {
+    let OperandLaying::Laid(two, y) = second else {
         return CellLaying::Full;
     };
     let third = lay_operand(t, text, c, runs, trits, two);
-    let Laying::Laid(all) = third else {
+    let OperandLaying::Laid(all, z) = third else {
         return CellLaying::Full;
     };
     CellLaying::Laid(Counts {
@@ -108,5 +131,6 @@ pub fn lay_cell(
         b: two.runs - one.runs,
         c: all.runs - two.runs,
         so: all,
+        bare: any_bare(x, y, z),
     })
 }

@@ -17,7 +17,7 @@ ghost use Rattle.saying.specs.Values.{tritsIn, baseBits, copies, partBits};
 ghost use Rattle.laying.specs.Growing.{Opened, Grows, BaseIn, PartIn};
 
 // A constant: its trits behind those in use, then its run.
-fn add_constant(
+pub(crate) fn add_constant(
     t: &[u8; 256],
     text: &[u8],
     s: Str,

@@ -1,125 +1,94 @@
-use mathlib.Core.Path.{_≡_, refl, sym, _∙_}
-use native.Mathlib.Omega.{arith}
-use lib.ListN.{length}
-use Rattle.form.specs.Walks.{mostParts}
-use Rattle.form.proofs.Steps.{walk-shrinks}
-use Rattle.laying.proofs.Walking.{Walks, walks-none, walks-done, walks-in, walks-room, walks-more, walks-full, walked-after}
+use mathlib.Core.Path.{sym, _∙_}
+use Rattle.laying.proofs.Walking.{at-none, at-refused, at-alone, at-within, alone-in, operand-fits, operand-laid, nothing-laid}
 use borrow.Author.Needs.{needs}
 use Rattle.laying.proofs.lay_operand.Statement.{statement}
 use Rattle.laying.proofs.lay_operand.Tie as tie
 
-abbrev Inv-loop : tie.InvT-loop
-Inv-loop t text runs₀ trits₀ first used₀ walk₀ runs trits used walk =
-    (length runs ≡ length runs₀) × (length trits ≡ length trits₀) × Walks text walk₀ runs₀ trits₀ used₀ walk runs trits used
+next-with-requires : tie.Need-next-with-requires
+next-with-requires c κs = search needs
 
-abbrev μ-loop : tie.MeasureT-loop
-μ-loop t text runs₀ trits₀ first used₀ walk₀ runs trits used walk = mostParts walk
-
-walk-of-requires : tie.Need-walk-of-requires Inv-loop μ-loop
-walk-of-requires c κs = search needs
-
-loop-holds : tie.Need-loop-holds Inv-loop μ-loop
-loop-holds c =
-    let s = c .before .before .before .before in
-    let a = s .args in
-    let b = c .walk-of .ensures in
-    (refl, refl, walks-none (a .text .now) (a .operand) _ b (a .runs .now) (a .trits .now) (a .so))
-
-walk-step-requires : tie.Need-walk-step-requires Inv-loop μ-loop
-walk-step-requires c κs = search needs
-
-enum-known-step : tie.Need-enum-known-step Inv-loop μ-loop
+enum-known-step : tie.Need-enum-known-step
 enum-known-step c = search needs
 
-enum-told : tie.Need-enum-told Inv-loop μ-loop
+enum-told : tie.Need-enum-told
 enum-told c = search needs
 
-same-length : tie.Need-same-length Inv-loop μ-loop
-same-length c =
-    omega (arith, c .before .before .before .loop .inv .0)
-
-same-length-2 : tie.Need-same-length-2 Inv-loop μ-loop
-same-length-2 c =
-    omega (arith, c .before .before .before .loop .inv .1)
-
-returns : tie.Need-returns Inv-loop μ-loop
+returns : tie.Need-returns
 returns c =
-    let s = c .before .before .before .before .before .before .before .before in
-    let a = s .args in
-    let b = c .before .before .before .before .walk-of .ensures in
-    let l = c .before .before .before .loop in
-    let e = sym (c .enum-told .given .1) ∙ c .before .before .walk-step .ensures in
-    walked-after (a .text .now) (a .operand) _ b (a .runs .now) (a .trits .now) (a .so) _ (walks-done (a .text .now) (a .operand) _ b (a .runs .now) (a .trits .now) (a .so) (l .inv .2) e)
+    let a = c .before .before .before .before .before .before .before .args in
+    let w = at-refused (a .text .now) (a .operand) (c .before .before .before .if1 .taken) _ (sym (c .before .before .next-with .ensures) ∙ c .enum-told .given .1) in
+    operand-laid (a .text .now) (a .operand) w (nothing-laid (a .text .now) (a .runs .now) (a .trits .now) (a .so))
 
-add-part-requires : tie.Need-add-part-requires Inv-loop μ-loop
-add-part-requires c κs =
-    let s = c .before .before .before .before .before .before .before .before .before .before .before in
-    let a = s .args in
-    let b = c .before .before .before .before .before .before .before .walk-of .ensures in
-    let l = c .before .before .before .before .before .before .loop in
-    let e = sym (c .before .before .before .step .given .1) ∙ c .before .before .before .before .before .walk-step .ensures in
-    (s .pre .0, walks-in (a .text .now) (a .operand) _ b (a .runs .now) (a .trits .now) (a .so) (l .inv .2) _ _ _ e, walks-room (a .text .now) (a .operand) _ b (a .runs .now) (a .trits .now) (a .so) (l .inv .2) _ _ _ e (s .pre .2) (s .pre .3) (s .pre .4))
+is-part-requires : tie.Need-is-part-requires
+is-part-requires c κs = search needs
 
-enum-known-added : tie.Need-enum-known-added Inv-loop μ-loop
-enum-known-added c = search needs
+lay-alone-requires : tie.Need-lay-alone-requires
+lay-alone-requires c κs =
+    let a = c .before .before .before .before .before .before .before .before .before .before .before .before .args in
+    let h = c .before .before .before .before .before .before .before .before .before .before .before .before .pre in
+    let e = sym (c .before .before .before .before .before .before .before .next-with .ensures) ∙ c .before .before .before .before .before .step .given .1 in
+    let is = sym (c .before .before .before .is-part .ensures) ∙ c .before .before .if2 .taken in
+    let w = at-alone (a .text .now) (a .operand) (c .before .before .before .before .before .before .before .before .if1 .taken) _ _ e is in
+    (h .0, alone-in (a .text .now) (a .operand) (c .before .before .before .before .before .before .before .before .if1 .taken) _ _ e is, operand-fits (a .text .now) (a .operand) w (h .2) (h .3) (h .4))
 
-enum-told-2 : tie.Need-enum-told-2 Inv-loop μ-loop
-enum-told-2 c = search needs
+same-length : tie.Need-same-length
+same-length c = search needs
 
-same-length-3 : tie.Need-same-length-3 Inv-loop μ-loop
-same-length-3 c =
-    omega (arith, c .before .before .before .before .before .before .before .before .before .before .before .before .before .loop .inv .0, c .before .before .before .before .before .before .add-part .kept)
+same-length-2 : tie.Need-same-length-2
+same-length-2 c = search needs
 
-same-length-4 : tie.Need-same-length-4 Inv-loop μ-loop
-same-length-4 c =
-    omega (arith, c .before .before .before .before .before .before .before .before .before .before .before .before .before .loop .inv .1, c .before .before .before .before .before .before .add-part .kept)
-
-returns-2 : tie.Need-returns-2 Inv-loop μ-loop
+returns-2 : tie.Need-returns-2
 returns-2 c =
-    let s = c .before .before .before .before .before .before .before .before .before .before .before .before .before .before .before .before .before .before in
-    let a = s .args in
-    let b = c .before .before .before .before .before .before .before .before .before .before .before .before .before .before .walk-of .ensures in
-    let l = c .before .before .before .before .before .before .before .before .before .before .before .before .before .loop in
-    let e = sym (c .before .before .before .before .before .before .before .before .before .before .step .given .1) ∙ c .before .before .before .before .before .before .before .before .before .before .before .before .walk-step .ensures in
-    walked-after (a .text .now) (a .operand) _ b (a .runs .now) (a .trits .now) (a .so) _ (walks-full (a .text .now) (a .operand) _ b (a .runs .now) (a .trits .now) (a .so) (l .inv .2) _ _ _ e (rw (c .enum-told2 .given .1) at (c .before .before .before .before .before .before .add-part .ensures)))
+    let a = c .before .before .before .before .before .before .before .before .before .before .before .before .before .before .before .before .before .args in
+    let e = sym (c .before .before .before .before .before .before .before .before .before .before .before .before .next-with .ensures) ∙ c .before .before .before .before .before .before .before .before .before .before .step .given .1 in
+    let is = sym (c .before .before .before .before .before .before .before .before .is-part .ensures) ∙ c .before .before .before .before .before .before .before .if2 .taken in
+    let w = at-alone (a .text .now) (a .operand) (c .before .before .before .before .before .before .before .before .before .before .before .before .before .if1 .taken) _ _ e is in
+    operand-laid (a .text .now) (a .operand) w (c .before .before .before .before .lay-alone .ensures)
 
-loop-less : tie.Need-loop-less Inv-loop μ-loop
-loop-less c =
-    let s = c .before .before .before .before .before .before .before .before .before .before .before .before .before .before .before .before .before .before .before in
-    let a = s .args in
-    let l = c .before .before .before .before .before .before .before .before .before .before .before .before .before .before .loop in
-    let e = sym (c .before .before .before .before .before .before .before .before .before .before .before .step .given .1) ∙ c .before .before .before .before .before .before .before .before .before .before .before .before .before .walk-step .ensures in
-    walk-shrinks (a .text .now) (l .walk) _ _ _ (sym e)
+lay-within-requires : tie.Need-lay-within-requires
+lay-within-requires c κs =
+    let a = c .before .before .before .before .before .before .before .before .before .before .before .before .args in
+    let h = c .before .before .before .before .before .before .before .before .before .before .before .before .pre in
+    let e = sym (c .before .before .before .before .before .before .before .next-with .ensures) ∙ c .before .before .before .before .before .step .given .1 in
+    let not = sym (c .before .before .before .is-part .ensures) ∙ c .before .before .if2 .left in
+    let w = at-within (a .text .now) (a .operand) (c .before .before .before .before .before .before .before .before .if1 .taken) _ _ e not in
+    (h .0, h .1, operand-fits (a .text .now) (a .operand) w (h .2) (h .3) (h .4))
 
-loop-again : tie.Need-loop-again Inv-loop μ-loop
-loop-again c =
-    let s = c .before .before .before .before .before .before .before .before .before .before .before .before .before .before .before .before .before .before .before in
-    let a = s .args in
-    let b = c .before .before .before .before .before .before .before .before .before .before .before .before .before .before .before .walk-of .ensures in
-    let l = c .before .before .before .before .before .before .before .before .before .before .before .before .before .before .loop in
-    let e = sym (c .before .before .before .before .before .before .before .before .before .before .before .step .given .1) ∙ c .before .before .before .before .before .before .before .before .before .before .before .before .before .walk-step .ensures in
-    let g = c .before .before .before .before .before .before .before .add-part in
-    (omega (arith, l .inv .0, g .kept), omega (arith, l .inv .1, g .kept), walks-more (a .text .now) (a .operand) _ b (a .runs .now) (a .trits .now) (a .so) (l .inv .2) _ _ _ e (rw (c .before .added .given .1) at (g .ensures)))
+same-length-3 : tie.Need-same-length-3
+same-length-3 c = search needs
+
+same-length-4 : tie.Need-same-length-4
+same-length-4 c = search needs
+
+returns-3 : tie.Need-returns-3
+returns-3 c =
+    let a = c .before .before .before .before .before .before .before .before .before .before .before .before .before .before .before .before .before .args in
+    let e = sym (c .before .before .before .before .before .before .before .before .before .before .before .before .next-with .ensures) ∙ c .before .before .before .before .before .before .before .before .before .before .step .given .1 in
+    let not = sym (c .before .before .before .before .before .before .before .before .is-part .ensures) ∙ c .before .before .before .before .before .before .before .if2 .left in
+    let w = at-within (a .text .now) (a .operand) (c .before .before .before .before .before .before .before .before .before .before .before .before .before .if1 .taken) _ _ e not in
+    operand-laid (a .text .now) (a .operand) w (c .before .before .before .before .lay-within .ensures)
+
+returns-4 : tie.Need-returns-4
+returns-4 c =
+    let a = c .before .before .before .before .args in
+    let w = at-none (a .text .now) (a .operand) (c .if1 .left) in
+    operand-laid (a .text .now) (a .operand) w (nothing-laid (a .text .now) (a .runs .now) (a .trits .now) (a .so))
 
 pub lay-operand-spec : {M : Type 1} → statement M
 lay-operand-spec =
     tie.close
     (tie.spec
-    Inv-loop
-    μ-loop
-    walk-of-requires
-    loop-holds
-    walk-step-requires
+    next-with-requires
     enum-known-step
     enum-told
+    returns
+    is-part-requires
+    lay-alone-requires
     same-length
     same-length-2
-    returns
-    add-part-requires
-    enum-known-added
-    enum-told-2
+    returns-2
+    lay-within-requires
     same-length-3
     same-length-4
-    returns-2
-    loop-less
-    loop-again)
+    returns-3
+    returns-4)
