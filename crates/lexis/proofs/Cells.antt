@@ -10,7 +10,7 @@ use Rattle.lexis.specs.Tokens.{cellTook, cellFrom, placeholderFrom, open
 use Rattle.lexis.specs.declared.pieces.Numeral.{Numeral}
 use Rattle.lexis.specs.declared.pieces.Suffix.{Suffix}
 
-not-true : (a : Bool) → not a ≡ true → a ≡ false
+pub not-true : (a : Bool) → not a ≡ true → a ≡ false
 not-true true e = never-both e refl
 not-true false e = refl
 

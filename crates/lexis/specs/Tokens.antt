@@ -13,6 +13,7 @@ use Rattle.lexis.specs.declared.pieces.Suffix.{Suffix}
 use Rattle.lexis.specs.declared.pieces.Quoted.{Quoted}
 use Rattle.lexis.specs.declared.pieces.Quoted.the-variants.{Closed, Malformed}
 use Rattle.lexis.specs.declared.Token.{Token}
+use Rattle.lexis.specs.declared.Spot.{Spot}
 use Rattle.lexis.specs.declared.Step.{Step}
 use Rattle.lexis.specs.declared.Step.the-variants.{Took, Refused}
 
@@ -209,3 +210,24 @@ tokenAt text k = standingAt text (spanEnd isWhite (drop k text) k)
 -- THE TOKEN between brackets: line ends and comments are white space
 unfoldable pub insideAt : List ℕ → ℕ → Step
 insideAt text k = standingAt text (insideEnd (drop k text) false k)
+
+-- A part by its number, or n where it is not written; a number that no refusal comes of is not `large`
+abbrev pub partOr : ℕ → Suffix → Numeral
+partOr n s = record { value = pick (s .given) (s .value) n; large = s .broken || s .large; end = s .end }
+
+abbrev pub spot : ℕ → ℕ → ℕ → ℕ → Spot
+spot n offset width end = record { found = true; closed = false; cell = n; offset = offset; width = width; end = end }
+
+abbrev pub noSpot : Bool → Spot
+noSpot closed = record { found = false; closed = closed; cell = 0; offset = 0; width = 0; end = 0 }
+
+-- a cell identifier without a count by its numbers
+abbrev pub spotOf : Step → Spot
+spotOf (Took t r) = pick (eqb (t .sort) cell && ltb (t .parts) 4) (spot (t .value) (t .offset) (t .width) (r .next .at)) (noSpot false)
+spotOf (Refused g) = noSpot false
+
+-- THE CELL IDENTIFIER between brackets, without a count, by its numbers; or whether `]` stands there
+unfoldable pub spotAt : List ℕ → ℕ → Spot
+spotAt text at =
+    let k = insideEnd (drop at text) false at in
+    pick (eqb (getD text k 0) 37 && not (follows text k)) (spotOf (cellOf text k)) (noSpot (eqb (getD text k 0) 93))

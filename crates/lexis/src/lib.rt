@@ -33,6 +33,16 @@ pub enum Step {
     Refused(Refusal),
 }
 
+// A cell identifier between brackets, without a count, by its numbers and the place past it; `closed` where `]` stands there instead.
+pub struct Spot {
+    pub found: bool,
+    pub closed: bool,
+    pub cell: u32,
+    pub offset: u32,
+    pub width: u32,
+    pub end: usize,
+}
+
 // The text as a whole: sound, or a refusal 2, 3 or 4 with its place.
 pub enum Whole {
     Sound,
