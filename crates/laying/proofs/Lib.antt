@@ -7,4 +7,5 @@ pub mod Turning
 pub mod Inside
 pub mod Walking
 pub mod Counting
+pub mod Covering
 pub mod Outcomes
