@@ -34,7 +34,7 @@ use Rattle.resolving.specs.declared.Lost.{Lost}
 use Rattle.resolving.specs.declared.Lost.the-variants.{At, Nowhere}
 
 -- a row that is found is one of the rows
-row-most : (ns : List ℕ) (i row : ℕ) → 1 ≤ row → rowFrom ns i row < row + length ns
+pub row-most : (ns : List ℕ) (i row : ℕ) → 1 ≤ row → rowFrom ns i row < row + length ns
 unfolding rowFrom
 row-most [] i row h = omega arith
 row-most (n ∷ ns) i row h = bool-cases (eqb n i)

@@ -1,4 +1,5 @@
 pub mod Numbers
 pub mod Finding
+pub mod RunsFound
 pub mod Declared
 pub mod Outcomes

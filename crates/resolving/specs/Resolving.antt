@@ -56,6 +56,19 @@ abbrev pub resolvesIn : List ℕ → List ℕ → Piece → Bool
 resolvesIn numbered cells p =
     leb 1 (getD numbered (p .cell) 0) && leb (p .offset + p .width) (getD cells ((getD numbered (p .cell) 0 - 1) * 9 + 1) 0)
 
+-- a run row of these words resolves
+abbrev pub rowResolves : List ℕ → List ℕ → ℕ → ℕ → ℕ → Bool
+rowResolves numbered cells head from width =
+    pick (eqb head 0) true (resolvesIn numbered cells (record { cell = head - 1; offset = from; width = width }))
+
+-- .. and each of n rows
+unfoldable pub rowsResolve : List ℕ → List ℕ → ℕ → List ℕ → Bool
+rowsResolve numbered cells zero rows = true
+rowsResolve numbered cells (suc n) rows = elim (rowResolves numbered cells (getD rows 0 0) (getD rows 1 0) (getD rows 2 0)) [
+  | true ↦ rowsResolve numbered cells n (drop 3 rows)
+  | false ↦ false
+]
+
 -- whether what a part repeats is a piece that does not resolve
 abbrev pub baseLost : List ℕ → List ℕ → Base → Bool
 baseLost numbered cells (base.Constant s) = false

@@ -16,7 +16,7 @@ ghost use lib.ListN.{length};
 ghost use Rattle.lexis.specs.Bytes.{table};
 ghost use Rattle.form.specs.Parts.{partsAt};
 ghost use Rattle.saying.specs.Pieces.{baseIn};
-ghost use Rattle.resolving.specs.Resolving.{rowWord, RunsNumbered, RowsRuns, resolvesIn, baseLost, lostFrom, operandOf, lostOf};
+ghost use Rattle.resolving.specs.Resolving.{rowWord, RunsNumbered, RowsRuns, resolvesIn, rowResolves, rowsResolve, baseLost, lostFrom, operandOf, lostOf};
 
 // The place of the first piece that does not resolve.
 pub enum Lost {
@@ -58,6 +58,41 @@ fn resolves(map: &[u32], cells: &[u32], p: Piece) -> bool
     }
     let end = (p.offset as u64) + (p.width as u64);
     end <= (word_at(cells, (row - 1) * 9 + 1) as u64)
+}
+
+// Whether a run row resolves; a constant begins with 0 and does.
+fn run_resolves(map: &[u32], cells: &[u32], head: u32, from: u32, width: u32) -> bool
+    ensures { λ r. ⌜ r ≡ rowResolves (now (map .entry)) (now (cells .entry)) head from width ⌝ }
+{
+    if head == 0 {
+        return true;
+    }
+    resolves(
+        map,
+        cells,
+        Piece {
+            cell: head - 1,
+            offset: from,
+            width: width,
+        },
+    )
+}
+
+// Whether each of the first n run rows resolves. Where no part of the text is without bits, each piece resolves then.
+pub fn runs_resolve(map: &[u32], cells: &[u32], runs: &[u32], n: usize) -> bool
+    requires { ⌜ RunsNumbered (now runs) n ⌝ }
+    ensures { λ r. ⌜ r ≡ rowsResolve (now (map .entry)) (now (cells .entry)) n (now (runs .entry)) ⌝ }
+{
+    let mut i: usize = 0;
+    while i < n {
+        let k = i * 3;
+        if run_resolves(map, cells, runs[k], runs[k + 1], runs[k + 2]) {
+            i += 1;
+        } else {
+            return false;
+        }
+    }
+    true
 }
 
 // What a part repeats, or is; how often does not matter here.
