@@ -1,6 +1,8 @@
 -- What the contracts of `note_meta`, `note_io` and `note_cell` fix, given what was said before: the answer, that is, the refusal with its
--- place, or the whole tally. Of the tables they fix what is noted; a string's place may be any at which the text spells it.
+-- place, or the tally but for its note of bare parts: that tells only how rule 14 is asked. Of the tables they fix what is noted; a string's
+-- place may be any at which the text spells it.
 use mathlib.Core.Path.{_≡_, refl, sym, ap, _∙_}
+use mathlib.Core.Bool.{false}
 use mathlib.Core.List.{List}
 use mathlib.Core.Option.{Option, none, some}
 use Prim.Native.Nat.{ℕ}
@@ -38,10 +40,12 @@ tallyOf N = record {
   declared = total (λ c. c .width) (N .cells);
   outputs = total outputBits (N .cells);
   strings = length (stringsOf N);
+  bare = false;
 }
 
-abbrev fields : Tally → Tally
-fields n = record {
+-- .. and a tally without its note of bare parts
+abbrev pub counts : Tally → Tally
+counts n = record {
   metas = n .metas;
   ios = n .ios;
   cells = n .cells;
@@ -52,12 +56,17 @@ fields n = record {
   declared = n .declared;
   outputs = n .outputs;
   strings = n .strings;
+  bare = false;
 }
 
-tallied : (N : Netlist) (n : Tally) → Tallied N n → fields n ≡ tallyOf N
+abbrev pub counted : Noting → Noting
+counted (noting.Refused g) = noting.Refused g
+counted (noting.More n) = noting.More (counts n)
+
+tallied : (N : Netlist) (n : Tally) → Tallied N n → counts n ≡ tallyOf N
 tallied N n t = rw (t .metas, t .ios, t .cells, t .members, t .trits, t .runs, t .known, t .declared, t .outputs, t .strings)
 
-pub one-tally : (N : Netlist) (n m : Tally) → Tallied N n → Tallied N m → n ≡ m
+pub one-tally : (N : Netlist) (n m : Tally) → Tallied N n → Tallied N m → counts n ≡ counts m
 one-tally N n m s t = tallied N n s ∙ sym (tallied N m t)
 
 abbrev told : Refusal → Option Refusal → Refusal
@@ -68,7 +77,7 @@ never-told : (g : Refusal) (o : Option Refusal) → o ≡ none → o ≡ some g 
 never-told g o a b = let z : _≡_ {A = ℕ} 0 1 = cc in omega arith
 
 module _ (text : List ℕ) (so : Sofar) (d : Declared) (a x u b y v : List ℕ) where
-  pub one-answer : (o p : Noting) → After text so d o a x u → After text so d p b y v → o ≡ p
+  pub one-answer : (o p : Noting) → After text so d o a x u → After text so d p b y v → counted o ≡ counted p
   one-answer (noting.Refused g) (noting.Refused h) s t = ap noting.Refused (ap (told g) (sym s ∙ t))
   one-answer (noting.Refused g) (noting.More m) s t = absurd (never-told g _ (t .0) s)
   one-answer (noting.More n) (noting.Refused h) s t = absurd (never-told h _ (s .0) t)

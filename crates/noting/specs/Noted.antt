@@ -16,6 +16,7 @@ use Rattle.saying.specs.Pieces.{PieceAt, operandPieces}
 use Rattle.saying.specs.Rules.{Sofar, saidBy, added, ruledOut}
 use Rattle.saying.specs.Notes.{MetaNote, metaNote, metasSaid, IoNote, ioNote, iosSaid, CellNote, cellNote, cellsSaid, SpellMetas, SpellIos, SpellCells, operandWord, Maps}
 use Rattle.laying.specs.Holding.{Holds}
+use Rattle.laying.specs.Bare.{Covers}
 use Rattle.laying.specs.declared.Laid.{Laid}
 use Rattle.noting.specs.declared.Tally.{Tally}
 use Rattle.noting.specs.declared.Noting.{Noting}
@@ -72,8 +73,8 @@ pub record IosHeld (text : List ℕ) (is : List Io) (ios : List ℕ) : Type 0 wh
   pub rows : ios ≡ pad 192 (joined ioNote notes)
   pub spelled : SpellIos text notes
 
--- CELLS noted so far, with the author's numbers by row and the text's pieces
-pub record CellsHeld (text : List ℕ) (cs : List Cell) (numbers : List ℕ) (pieces : List PieceAt) (cells runs trits numbered places : List ℕ) (laid : Laid) : Type 0 where
+-- CELLS noted so far, with the author's numbers by row and the text's pieces, which the runs cover unless a part was bare
+pub record CellsHeld (text : List ℕ) (cs : List Cell) (numbers : List ℕ) (pieces : List PieceAt) (cells runs trits numbered places : List ℕ) (laid : Laid) (bare : Bool) : Type 0 where
   pub notes : List CellNote
   pub said : cellsSaid notes ≡ cs
   pub rows : cells ≡ pad 4608 (joined cellNote notes)
@@ -86,6 +87,7 @@ pub record CellsHeld (text : List ℕ) (cs : List Cell) (numbers : List ℕ) (pi
   pub placed : places ≡ pad 1536 (map operandWord operands)
   pub threes : length operands ≡ length cs * 3
   pub asked : joined (operandPieces text) operands ≡ pieces
+  pub covered : bare ≡ false → Covers (runsOf cs) pieces
 
 -- THE TALLY is right, and no limit is passed
 pub record Tallied (N : Netlist) (n : Tally) : Type 0 where
@@ -108,7 +110,7 @@ pub record Noted (text : List ℕ) (so : Sofar) (n : Tally) (rows bits work : Li
   pub longWork : length work ≡ 132608
   pub metas : MetasHeld text (so .netlist .metas) (so .metaNumbers) (metasIn rows) (membersIn rows) (attrTritsIn bits) (metaMapIn work)
   pub ios : IosHeld text (so .netlist .ios) (iosIn rows)
-  pub cells : CellsHeld text (so .netlist .cells) (so .cellNumbers) (so .pieces) (cellsIn rows) (runsIn rows) (runTritsIn bits) (cellMapIn work) (placesIn work) (record { runs = n .runs; trits = n .known })
+  pub cells : CellsHeld text (so .netlist .cells) (so .cellNumbers) (so .pieces) (cellsIn rows) (runsIn rows) (runTritsIn bits) (cellMapIn work) (placesIn work) (record { runs = n .runs; trits = n .known }) (n .bare)
   pub tally : Tallied (so .netlist) n
 
 -- .. of something said

@@ -61,6 +61,7 @@ ioTally n size = record {
   declared = n .declared;
   outputs = n .outputs;
   strings = n .strings + size;
+  bare = n .bare;
 }
 
 -- room for an I/O row more

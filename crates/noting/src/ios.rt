@@ -91,6 +91,7 @@ fn io_more(n: Tally, size: usize) -> Tally
         declared: n.declared,
         outputs: n.outputs,
         strings: n.strings + size,
+        bare: n.bare,
     }
 }
 

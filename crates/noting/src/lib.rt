@@ -10,7 +10,7 @@ use ground::Place;
 use ground::Refusal;
 
 // How much the text brought so far: rows, members of sets, trits of attributes, runs, known trits in them, declared cell bits,
-// output bits, and bytes of strings.
+// output bits, and bytes of strings; and whether a part without bits was read, of which the runs tell nothing.
 pub struct Tally {
     pub metas: usize,
     pub ios: usize,
@@ -22,6 +22,7 @@ pub struct Tally {
     pub declared: usize,
     pub outputs: usize,
     pub strings: usize,
+    pub bare: bool,
 }
 
 // A declaration more is noted, or why it is refused.
