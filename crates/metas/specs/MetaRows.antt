@@ -191,6 +191,7 @@ metaTally n r = record {
   declared = n .declared;
   outputs = n .outputs;
   strings = n .strings + r .name .size + r .text .size;
+  bare = n .bare;
 }
 
 -- room for a row more

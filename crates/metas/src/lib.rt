@@ -362,6 +362,7 @@ fn meta_more(row: MetaRow, n: Tally) -> Tally
         declared: n.declared,
         outputs: n.outputs,
         strings: n.strings + row.name.size + row.text.size,
+        bare: n.bare,
     }
 }
 
