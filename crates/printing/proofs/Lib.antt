@@ -3,3 +3,4 @@ pub mod Rows
 pub mod One
 pub mod Views
 pub mod Trits
+pub mod Whole

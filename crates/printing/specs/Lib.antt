@@ -1,3 +1,4 @@
 pub mod Lines
 pub mod Pools
+pub mod Whole
 pub mod Outcome

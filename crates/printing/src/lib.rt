@@ -1,5 +1,6 @@
 // Printing: the canonical text of the netlist in lent tables. It promises the text, its length and every byte of the room as the
 // definitions of specs/ give them. The netlist stands below it, the programs above.
+pub mod good;
 pub mod ios;
 pub mod metas;
 
