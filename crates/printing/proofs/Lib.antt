@@ -4,3 +4,5 @@ pub mod One
 pub mod Views
 pub mod Trits
 pub mod Whole
+pub mod Sound
+pub mod Printing

@@ -26,7 +26,7 @@ module _ (p : ℕ → Bool) (z : p 0 ≡ true) where
       (λ e. never-both (rw (e, fits) at h) refl)
 
 -- pieces that pass, joined
-every-joins : {A : Type 0} (p : A → Bool) (xs ys : List A) → every p xs ≡ true → every p ys ≡ true → every p (xs ++ ys) ≡ true
+pub every-joins : {A : Type 0} (p : A → Bool) (xs ys : List A) → every p xs ≡ true → every p ys ≡ true → every p (xs ++ ys) ≡ true
 every-joins p [] ys h k = k
 every-joins p (x ∷ xs) ys h k = let f = every-first p x xs h in every-more p x (xs ++ ys) (f .0) (every-joins p xs ys (f .1) k)
 

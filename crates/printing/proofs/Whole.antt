@@ -63,17 +63,17 @@ module _ {T : Tables} (s : Sound T) {numbers widths : List ℕ} (e : widths ≡ 
 
 -- tables show as many rows as they count
 module _ (T : Tables) where
-  metas-many : (n : ℕ) (t : List ℕ) → length (metasIn T n t) ≡ n
+  pub metas-many : (n : ℕ) (t : List ℕ) → length (metasIn T n t) ≡ n
   unfolding metasIn
   metas-many zero t = refl
   metas-many (suc n) t = ap suc (metas-many n (drop 16 t))
 
-  ios-many : (n : ℕ) (t : List ℕ) → length (iosIn T n t) ≡ n
+  pub ios-many : (n : ℕ) (t : List ℕ) → length (iosIn T n t) ≡ n
   unfolding iosIn
   ios-many zero t = refl
   ios-many (suc n) t = ap suc (ios-many n (drop 3 t))
 
-  cells-many : (pool : List Run) (n : ℕ) (t : List ℕ) → length (cellsIn T pool n t) ≡ n
+  pub cells-many : (pool : List Run) (n : ℕ) (t : List ℕ) → length (cellsIn T pool n t) ≡ n
   unfolding cellsIn
   cells-many pool zero t = refl
   cells-many pool (suc n) t = ap suc (cells-many pool n (drop 9 t))

@@ -1,13 +1,121 @@
 // Printing: the canonical text of the netlist in lent tables. It promises the text, its length and every byte of the room as the
-// definitions of specs/ give them. The netlist stands below it, the programs above.
+// definitions of specs/ give them. The check of tables stands below it, the programs above.
 pub mod good;
 pub mod ios;
 pub mod metas;
 
+use checking::check_tables;
+use checkmeta::rows::word_of;
+use good::count_good;
+use good::put_good;
+use ground::Place;
 use ground::Refusal;
+use netlist::Checked;
+ghost use mathlib.Core.Path.{_≡_};
+ghost use mathlib.Core.Bool.{true};
+ghost use Prim.Native.Nat.{_≤_};
+ghost use lib.ListN.{length};
+ghost use Rattle.ground.specs.Refusals.{at, refusal};
+ghost use Rattle.netlist.specs.Tables.{tablesIn};
+ghost use Rattle.netlist.specs.View.{view};
+ghost use Rattle.netlist.specs.Good.{good, netlistIn};
+ghost use Rattle.checking.specs.Parts.{regions};
+ghost use Rattle.printing.specs.Lines.{canonical};
+ghost use Rattle.printing.specs.Whole.{Sound};
+ghost use Rattle.printing.specs.Outcome.{made, written, printOf};
+ghost use Rattle.printing.specs.declared.Printed.the-variants as printed;
 
 // The length of the text printed, or a refusal.
 pub enum Printed {
     Length(usize),
     Refused(Refusal),
+}
+
+fn too_long() -> Printed
+    ensures { λ r. ⌜ r ≡ printed.Refused (refusal 24 (at 0)) ⌝ }
+{
+    let place = Place { at: 0 };
+    Printed::Refused(Refusal { number: 24, place })
+}
+
+// The printing of good tables, which is counted first: a refusal leaves the room as it was.
+fn print_good(
+    room: &mut [u8],
+    metas: &[u32],
+    members: &[u32],
+    ios: &[u32],
+    cells: &[u32],
+    runs: &[u32],
+    strings: &[u8],
+    attrs: &[u8],
+    trits: &[u8],
+    nm: u32,
+    ni: u32,
+    nc: usize,
+) -> Printed
+    requires { ⌜ Sound (regions nm ni nc (now metas) (now members) (now ios) (now cells) (now runs) (now strings) (now attrs) (now trits)) ⌝ }
+    ensures { λ r. ⌜ made r (now (room .exit)) ≡ written (canonical (view (regions nm ni nc (now (metas .entry)) (now (members .entry)) (now (ios .entry)) (now (cells .entry)) (now (runs .entry)) (now (strings .entry)) (now (attrs .entry)) (now (trits .entry))))) (now (room .entry)) ⌝ }
+{
+    let n = count_good(
+        metas,
+        members,
+        ios,
+        cells,
+        runs,
+        strings,
+        attrs,
+        trits,
+        nm,
+        ni,
+        nc,
+    );
+    if room.len() < n {
+        return too_long();
+    }
+    let n = put_good(
+        room,
+        metas,
+        members,
+        ios,
+        cells,
+        runs,
+        strings,
+        attrs,
+        trits,
+        nm,
+        ni,
+        nc,
+    );
+    Printed::Length(n)
+}
+
+// The printing of lent tables that were checked, cut into their regions.
+fn print_checked(rows: &[u32], strings: &[u8], bits: &[u8], room: &mut [u8]) -> Printed
+    requires { ⌜ (26307 ≤ length (now rows)) × (16384 ≤ length (now strings)) × (393728 ≤ length (now bits)) × (good (tablesIn (now rows) (now strings) (now bits)) ≡ true) ⌝ }
+    ensures { λ r. ⌜ made r (now (room .exit)) ≡ written (canonical (netlistIn (now (rows .entry)) (now (strings .entry)) (now (bits .entry)))) (now (room .entry)) ⌝ }
+{
+    print_good(
+        room,
+        &rows[3..8195],
+        &rows[8195..9219],
+        &rows[9219..9411],
+        &rows[9411..14019],
+        &rows[14019..26307],
+        &strings[0..16384],
+        &bits[0..131072],
+        &bits[131072..393728],
+        rows[0],
+        rows[1],
+        word_of(rows, 2),
+    )
+}
+
+// The canonical text of the netlist in lent tables, which are checked first: 1, 15, then 24 where the room is shorter than the text.
+pub fn print_text(rows: &[u32], strings: &[u8], bits: &[u8], room: &mut [u8]) -> Printed
+    ensures { λ r. ⌜ made r (now (room .exit)) ≡ printOf (now (rows .entry)) (now (strings .entry)) (now (bits .entry)) (now (room .entry)) ⌝ }
+{
+    match check_tables(rows, strings, bits) {
+        Checked::Refused(g) => Printed::Refused(g),
+        Checked::Good => print_checked(rows, strings, bits, room),
+    }
 }

@@ -3,19 +3,13 @@ use native.Mathlib.Omega.{arith}
 use borrow.Author.Needs.{needs}
 use Rattle.printing.proofs.good.count_good.Statement.{statement}
 use Rattle.printing.proofs.good.count_good.Tie as tie
-use Rattle.printing.proofs.good.count_good.Reads as reads
-use Rattle.printing.proofs.good.count_good.Lts as lts
-use Rattle.printing.proofs.good.put_good.Reads as put-good-reads
 
--- src/good.rt:189:9
 slice-aggregate-put-good : tie.Need-slice-aggregate-put-good
 slice-aggregate-put-good c = search needs
 
--- src/good.rt:188:5
 put-good-requires : tie.Need-put-good-requires
 put-good-requires c κs = search needs
 
--- src/good.rt:171:1
 returns : tie.Need-returns
 returns c = counts (c .before .before .before .before .before .before .before .before .before .before .before .pre) (c .before .put-good .ensures) (omega (arith, c .before .put-good .ok))
 

@@ -2,18 +2,13 @@ use Rattle.ground.proofs.Tests.{tests}
 use borrow.Author.Needs.{needs}
 use Rattle.printing.proofs.good.is_bare.Statement.{statement}
 use Rattle.printing.proofs.good.is_bare.Tie as tie
-use Rattle.printing.proofs.good.is_bare.Reads as reads
-use Rattle.printing.proofs.good.is_bare.Lts as lts
 
--- src/good.rt:49:9
 returns : tie.Need-returns
 returns c = search tests
 
--- src/good.rt:52:9
 returns-2 : tie.Need-returns-2
 returns-2 c = search tests
 
--- src/good.rt:45:1
 returns-3 : tie.Need-returns-3
 returns-3 c = search tests
 

@@ -2,29 +2,19 @@ use Rattle.printing.proofs.Whole.{numbers-few, joined-lines}
 use borrow.Author.Needs.{needs}
 use Rattle.printing.proofs.good.put_lines.Statement.{statement}
 use Rattle.printing.proofs.good.put_lines.Tie as tie
-use Rattle.printing.proofs.good.put_lines.Reads as reads
-use Rattle.printing.proofs.good.put_lines.Lts as lts
-use Rattle.celllines.proofs.put_cells.Reads as put-cells-reads
-use Rattle.printing.proofs.ios.put_ios.Reads as put-ios-reads
-use Rattle.printing.proofs.metas.put_metas.Reads as put-metas-reads
 
--- src/good.rt:36:9
 put-metas-requires : tie.Need-put-metas-requires
 put-metas-requires c κs = search needs
 
--- src/good.rt:37:9
 put-ios-requires : tie.Need-put-ios-requires
 put-ios-requires c κs = search needs
 
--- src/good.rt:38:5
 put-cells-requires : tie.Need-put-cells-requires
 put-cells-requires c κs = let p = c .before .before .before .before .before .before .before .before .before .before .before .before .before .before .before .before .before .before .before .before .pre in (p .0 .cells, numbers-few (p .0) (p .1) (p .2), p .0 .runs, p .0 .trits .1)
 
--- src/good.rt:18:1
 same-length : tie.Need-same-length
 same-length c = search needs
 
--- src/good.rt:18:1
 returns : tie.Need-returns
 returns c = let p = c .before .before .before .before .before .before .before .before .before .before .before .before .before .before .before .before .before .before .before .before .before .before .before .pre in joined-lines (p .0) (p .1) (p .2) (c .before .before .before .before .before .before .before .before .before .before .put-metas .ensures) (c .before .before .before .before .before .before .put-ios .ensures) (c .before .before .put-cells .ensures)
 

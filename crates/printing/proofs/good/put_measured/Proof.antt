@@ -2,56 +2,40 @@ use Rattle.printing.proofs.Whole.{measured, measured-text}
 use borrow.Author.Needs.{needs}
 use Rattle.printing.proofs.good.put_measured.Statement.{statement}
 use Rattle.printing.proofs.good.put_measured.Tie as tie
-use Rattle.printing.proofs.good.put_measured.Reads as reads
-use Rattle.printing.proofs.good.put_measured.Lts as lts
-use Rattle.numbering.proofs.take_widths.Reads as take-widths-reads
-use Rattle.printing.proofs.good.put_numbered.Reads as put-numbered-reads
 
--- src/good.rt:154:24
 sub-take-widths : tie.Need-sub-take-widths
 sub-take-widths c = search needs
 
--- src/good.rt:154:24
 part-take-widths-start : tie.Need-part-take-widths-start
 part-take-widths-start c = search needs
 
--- src/good.rt:154:24
 part-take-widths-end : tie.Need-part-take-widths-end
 part-take-widths-end c = search needs
 
--- src/good.rt:154:5
 take-widths-requires : tie.Need-take-widths-requires
 take-widths-requires c κs = search needs
 
--- src/good.rt:167:9
 sub-put-numbered : tie.Need-sub-put-numbered
 sub-put-numbered c = search needs
 
--- src/good.rt:167:9
 part-put-numbered-start : tie.Need-part-put-numbered-start
 part-put-numbered-start c = search needs
 
--- src/good.rt:167:9
 part-put-numbered-end : tie.Need-part-put-numbered-end
 part-put-numbered-end c = search needs
 
--- src/good.rt:155:5
 put-numbered-requires : tie.Need-put-numbered-requires
 put-numbered-requires c κs = let p = c .before .before .before .before .before .before .before .before .before .before .before .before .before .before .before .before .before .before .before .pre in let m = measured (p .0) (c .before .before .before .before .before .before .before .before .before .before .before .before .before .before .before .before .before .before .before .args .widths .now) _ _ (p .1) (c .before .before .before .before .before .before .take-widths .ensures) in (m .0, m .1, p .2)
 
--- src/good.rt:135:1
 same-length : tie.Need-same-length
 same-length c = search needs
 
--- src/good.rt:135:1
 same-length-2 : tie.Need-same-length-2
 same-length-2 c = search needs
 
--- src/good.rt:135:1
 same-length-3 : tie.Need-same-length-3
 same-length-3 c = search needs
 
--- src/good.rt:135:1
 returns : tie.Need-returns
 returns c = let p = c .before .before .before .before .before .before .before .before .before .before .before .before .before .before .before .before .before .before .before .before .before .before .before .before .pre in measured-text (p .0) (c .before .before .before .before .before .before .before .before .before .before .before .before .before .before .before .before .before .before .before .before .before .before .before .before .args .widths .now) _ _ (p .1) (c .before .before .before .before .before .before .before .before .before .before .before .take-widths .ensures) (c .before .before .before .before .put-numbered .ensures)
 

@@ -5,52 +5,37 @@ use Rattle.numbering.specs.Numbers.{narrow}
 use borrow.Author.Needs.{needs}
 use Rattle.printing.proofs.good.put_numbered.Statement.{statement}
 use Rattle.printing.proofs.good.put_numbered.Tie as tie
-use Rattle.printing.proofs.good.put_numbered.Reads as reads
-use Rattle.printing.proofs.good.put_numbered.Lts as lts
-use Rattle.numbering.proofs.number_cells.Reads as number-cells-reads
-use Rattle.printing.proofs.good.put_text.Reads as put-text-reads
 
--- src/good.rt:116:26
 sub-number-cells : tie.Need-sub-number-cells
 sub-number-cells c = search needs
 
--- src/good.rt:116:26
 part-number-cells-start : tie.Need-part-number-cells-start
 part-number-cells-start c = search needs
 
--- src/good.rt:116:26
 part-number-cells-end : tie.Need-part-number-cells-end
 part-number-cells-end c = search needs
 
--- src/good.rt:116:5
 number-cells-requires : tie.Need-number-cells-requires
 number-cells-requires c κs = let p = c .before .before .before .before .before .before .before .before .before .before .before .before .pre in (front-length (c .before .before .before .before .before .before .before .before .before .before .before .before .args .numbers .now) _ (p .2) (p .0 .few .2), p .0 .few .2, ap (every narrow) (p .1) ∙ p .0 .widths)
 
--- src/good.rt:129:9
 sub-put-text : tie.Need-sub-put-text
 sub-put-text c = search needs
 
--- src/good.rt:129:9
 part-put-text-start : tie.Need-part-put-text-start
 part-put-text-start c = search needs
 
--- src/good.rt:129:9
 part-put-text-end : tie.Need-part-put-text-end
 part-put-text-end c = search needs
 
--- src/good.rt:117:5
 put-text-requires : tie.Need-put-text-requires
 put-text-requires c κs = let p = c .before .before .before .before .before .before .before .before .before .before .before .before .before .before .before .before .before .before .pre in (p .0, p .1, numbers-again _ _ (c .before .before .before .before .before .before .before .before .before .before .before .before .before .before .before .before .before .before .args .widths .now) (c .before .before .before .before .before .number-cells .ensures))
 
--- src/good.rt:97:1
 same-length : tie.Need-same-length
 same-length c = search needs
 
--- src/good.rt:97:1
 same-length-2 : tie.Need-same-length-2
 same-length-2 c = search needs
 
--- src/good.rt:97:1
 returns : tie.Need-returns
 returns c = search needs
 

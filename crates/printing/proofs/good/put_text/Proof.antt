@@ -2,37 +2,25 @@ use Rattle.printing.proofs.Whole.{bare-text, full-text}
 use borrow.Author.Needs.{needs}
 use Rattle.printing.proofs.good.put_text.Statement.{statement}
 use Rattle.printing.proofs.good.put_text.Tie as tie
-use Rattle.printing.proofs.good.put_text.Reads as reads
-use Rattle.printing.proofs.good.put_text.Lts as lts
-use Rattle.printing.proofs.good.is_bare.Reads as is-bare-reads
-use Rattle.printing.proofs.good.put_lines.Reads as put-lines-reads
-use Rattle.writing.proofs.room.put.Reads as put-reads
 
--- src/good.rt:76:8
 is-bare-requires : tie.Need-is-bare-requires
 is-bare-requires c κs = search needs
 
--- src/good.rt:77:9
 put-requires : tie.Need-put-requires
 put-requires c κs = search needs
 
--- src/good.rt:77:9
 same-length : tie.Need-same-length
 same-length c = search needs
 
--- src/good.rt:77:9
 returns : tie.Need-returns
 returns c = bare-text (c .before .before .before .before .before .before .before .before .before .before .before .before .before .before .before .before .before .pre .0) (c .before .before .before .before .before .is-bare .ensures) (c .before .before .before .before .if1 .taken) (c .before .before .put .ensures)
 
--- src/good.rt:79:5
 put-lines-requires : tie.Need-put-lines-requires
 put-lines-requires c κs = search needs
 
--- src/good.rt:58:1
 same-length-2 : tie.Need-same-length-2
 same-length-2 c = search needs
 
--- src/good.rt:58:1
 returns-2 : tie.Need-returns-2
 returns-2 c = full-text (c .before .before .before .before .before .before .before .before .before .before .before .before .before .before .before .before .before .pre .0) (c .before .before .before .before .before .is-bare .ensures) (c .before .before .before .before .if1 .left) (c .before .before .put-lines .ensures)
 
