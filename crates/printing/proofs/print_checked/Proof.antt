@@ -5,76 +5,76 @@ use Rattle.printing.proofs.print_checked.Statement.{statement}
 use Rattle.printing.proofs.print_checked.Tie as tie
 
 sub-print-good : tie.Need-sub-print-good
-sub-print-good c = search needs
+sub-print-good c = omega arith
 
 part-print-good-start : tie.Need-part-print-good-start
-part-print-good-start c = search needs
+part-print-good-start c = omega arith
 
 part-print-good-end : tie.Need-part-print-good-end
-part-print-good-end c = search needs
+part-print-good-end c = omega (arith, c .before .before .before .before .before .pre .0)
 
 sub-print-good-2 : tie.Need-sub-print-good-2
-sub-print-good-2 c = search needs
+sub-print-good-2 c = omega arith
 
 part-print-good-start-2 : tie.Need-part-print-good-start-2
-part-print-good-start-2 c = search needs
+part-print-good-start-2 c = omega arith
 
 part-print-good-end-2 : tie.Need-part-print-good-end-2
-part-print-good-end-2 c = search needs
+part-print-good-end-2 c = omega (arith, c .before .before .before .before .before .before .pre .0)
 
 sub-print-good-3 : tie.Need-sub-print-good-3
-sub-print-good-3 c = search needs
+sub-print-good-3 c = omega arith
 
 part-print-good-start-3 : tie.Need-part-print-good-start-3
-part-print-good-start-3 c = search needs
+part-print-good-start-3 c = omega arith
 
 part-print-good-end-3 : tie.Need-part-print-good-end-3
-part-print-good-end-3 c = search needs
+part-print-good-end-3 c = omega (arith, c .before .before .before .before .before .before .before .pre .0)
 
 sub-print-good-4 : tie.Need-sub-print-good-4
-sub-print-good-4 c = search needs
+sub-print-good-4 c = omega arith
 
 part-print-good-start-4 : tie.Need-part-print-good-start-4
-part-print-good-start-4 c = search needs
+part-print-good-start-4 c = omega arith
 
 part-print-good-end-4 : tie.Need-part-print-good-end-4
-part-print-good-end-4 c = search needs
+part-print-good-end-4 c = omega (arith, c .before .before .before .before .before .before .before .before .pre .0)
 
 sub-print-good-5 : tie.Need-sub-print-good-5
-sub-print-good-5 c = search needs
+sub-print-good-5 c = omega arith
 
 part-print-good-start-5 : tie.Need-part-print-good-start-5
-part-print-good-start-5 c = search needs
+part-print-good-start-5 c = omega arith
 
 part-print-good-end-5 : tie.Need-part-print-good-end-5
-part-print-good-end-5 c = search needs
+part-print-good-end-5 c = omega (arith, c .before .before .before .before .before .before .before .before .before .pre .0)
 
 sub-print-good-6 : tie.Need-sub-print-good-6
-sub-print-good-6 c = search needs
+sub-print-good-6 c = omega arith
 
 part-print-good-start-6 : tie.Need-part-print-good-start-6
-part-print-good-start-6 c = search needs
+part-print-good-start-6 c = omega arith
 
 part-print-good-end-6 : tie.Need-part-print-good-end-6
-part-print-good-end-6 c = search needs
+part-print-good-end-6 c = omega (arith, c .before .before .before .before .before .before .before .before .before .before .pre .1)
 
 sub-print-good-7 : tie.Need-sub-print-good-7
-sub-print-good-7 c = search needs
+sub-print-good-7 c = omega arith
 
 part-print-good-start-7 : tie.Need-part-print-good-start-7
-part-print-good-start-7 c = search needs
+part-print-good-start-7 c = omega arith
 
 part-print-good-end-7 : tie.Need-part-print-good-end-7
 part-print-good-end-7 c = omega (arith, c .before .before .before .before .before .before .before .before .before .before .before .pre .2)
 
 sub-print-good-8 : tie.Need-sub-print-good-8
-sub-print-good-8 c = search needs
+sub-print-good-8 c = omega arith
 
 part-print-good-start-8 : tie.Need-part-print-good-start-8
-part-print-good-start-8 c = search needs
+part-print-good-start-8 c = omega arith
 
 part-print-good-end-8 : tie.Need-part-print-good-end-8
-part-print-good-end-8 c = search needs
+part-print-good-end-8 c = omega (arith, c .before .before .before .before .before .before .before .before .before .before .before .before .pre .2)
 
 shared-slice-read-print-good : tie.Need-shared-slice-read-print-good
 shared-slice-read-print-good c = omega (arith, c .before .before .before .before .before .before .before .before .before .before .before .before .before .before .pre .0)
