@@ -1,6 +1,7 @@
 -- How the measures of concatenations and sets go on, with f parts or members still allowed.
 -- Assumes nothing.
 use mathlib.Core.Path.{_≡_, refl}
+use mathlib.Core.Bool.{true, false}
 use mathlib.Core.List.{List}
 use Prim.Native.Nat.{ℕ, zero, suc, _+_, _-_, _<_, _≤_}
 use native.Mathlib.Numerals.{sub-one}
@@ -8,14 +9,44 @@ use native.Mathlib.Omega.{arith}
 use Rattle.ground.specs.Refusals.{at, refusal}
 use Rattle.ground.specs.declared.Place.{Place}
 use Rattle.ground.specs.declared.Refusal.{Refusal}
+use Rattle.lexis.specs.Tokens.{insideAt, meta}
 use Rattle.lexis.specs.declared.Reader.{Reader}
 use Rattle.lexis.specs.declared.Token.{Token}
-use Rattle.form.specs.Parts.{partWidth, nextPart, concatEnd, concatFrom, nextMember, setEnd, setFrom}
+use Rattle.lexis.specs.declared.Step.the-variants as step
+use Rattle.form.specs.Words.{isSort}
+use Rattle.form.specs.Parts.{isPart, partOf, ref, partWidth, nextPart, concatEnd, concatFrom, nextMember, setEnd, setFrom}
 use Rattle.form.specs.declared.Part.{Part}
 use Rattle.form.specs.declared.Ref.{Ref}
 use Rattle.form.specs.declared.Parted.the-variants as parted
 use Rattle.form.specs.declared.Membered.the-variants as membered
 use Rattle.form.specs.declared.Measured.the-variants as measured
+
+-- what stands next between brackets, by its token
+module _ (text : List ℕ) (k : ℕ) where
+  pub part-refused : (g : Refusal) → insideAt text k ≡ step.Refused g → nextPart text k ≡ parted.Refused g
+  unfolding nextPart
+  part-refused g e = rw e
+
+  pub member-refused : (g : Refusal) → insideAt text k ≡ step.Refused g → nextMember text k ≡ membered.Refused g
+  unfolding nextMember
+  member-refused g e = rw e
+
+  module _ (t : Token) (r : Reader) (e : insideAt text k ≡ step.Took t r) where
+    pub part-took : isPart t ≡ true → nextPart text k ≡ parted.Took (partOf t) (t .place) r
+    unfolding nextPart
+    part-took p = rw (e, p)
+
+    pub part-other : isPart t ≡ false → nextPart text k ≡ parted.Other t r
+    unfolding nextPart
+    part-other p = rw (e, p)
+
+    pub member-took : isSort meta t ≡ true → nextMember text k ≡ membered.Took (ref t) r
+    unfolding nextMember
+    member-took p = rw (e, p)
+
+    pub member-other : isSort meta t ≡ false → nextMember text k ≡ membered.Other t r
+    unfolding nextMember
+    member-other p = rw (e, p)
 
 pub concat-none : (f : ℕ) (text : List ℕ) (n k : ℕ) → f ≤ 0 → measured.Refused (refusal 7 (at k)) ≡ concatFrom f text n k
 unfolding concatFrom

@@ -167,14 +167,14 @@ module _ (text : List ℕ) (k : ℕ) (h : length text ≤ 65536) where
   unfolding tokenAt
   token-narrow t r e = from-narrow text _ _ h .took t r e
 
-  inside-narrow : AllNarrow (insideAt text k)
+  pub inside-narrow : (t : Token) (r : Reader) → insideAt text k ≡ step.Took t r → Narrow t
   unfolding insideAt
-  inside-narrow = from-narrow text _ _ h
+  inside-narrow t r e = from-narrow text _ _ h .took t r e
 
   -- the part that stands next between brackets
   pub next-narrow : (p : Part) (place : Place) (r : Reader) → nextPart text k ≡ parted.Took p place r → partWidth p ≤ widest
   unfolding nextPart
-  next-narrow p place r e = go (insideAt text k) (inside-narrow .took) e
+  next-narrow p place r e = go (insideAt text k) inside-narrow e
     where
       go : (s : Step) → ((t : Token) (r : Reader) → s ≡ step.Took t r → Narrow t) → partedOf s ≡ parted.Took p place r → partWidth p ≤ widest
       go (step.Refused g) n e = let z : _≡_ {A = ℕ} 0 1 = cc in absurd (omega arith)

@@ -83,6 +83,28 @@ pub fn part_width(part: Part) -> u64
     }
 }
 
+// The width of the base that a token is or repeats.
+fn alone_width(token: Token) -> u64
+    ensures { λ r. ⌜ r ≡ baseWidth (baseOf token) ⌝ }
+{
+    if token.sort == 4 {
+        return token.size as u64;
+    }
+    token.width as u64
+}
+
+// The width of the part that a token is, measured without making the part.
+fn token_width(token: Token) -> u64
+    requires { ⌜ partWidth (partOf token) ≤ widest ⌝ }
+    ensures { λ r. ⌜ r ≡ partWidth (partOf token) ⌝ }
+{
+    let width = alone_width(token);
+    if 4 <= token.parts {
+        return (token.count as u64) * width;
+    }
+    width
+}
+
 fn refused_part(token: Token) -> u8
     ensures { λ r. ⌜ r ≡ refusedPart token ⌝ }
 {
@@ -133,15 +155,16 @@ fn concat(t: &[u8; 256], text: &[u8], reader: Reader) -> Measured
     let mut next = reader;
     let mut left = text.len() + 1;
     while 0 < left {
-        match next_part(t, text, next) {
-            Parted::Took(p, _, r) => {
-                width += part_width(p);
-                next = r;
+        match next.inside_with(t, text) {
+            Step::Took(token, r) => {
+                if is_part(token) {
+                    width += token_width(token);
+                    next = r;
+                } else {
+                    return concat_end(width, token, r);
+                }
             }
-            Parted::Other(token, r) => {
-                return concat_end(width, token, r);
-            }
-            Parted::Refused(g) => {
+            Step::Refused(g) => {
                 return Measured::Refused(g);
             }
         }
@@ -157,7 +180,7 @@ fn operand_from(t: &[u8; 256], text: &[u8], at: usize, token: Token, reader: Rea
     ensures { λ r. ⌜ r ≡ operandFrom (now (text .entry)) at (Took token reader) ⌝ }
 {
     if is_part(token) {
-        let width = part_width(part_of(token));
+        let width = token_width(token);
         return Taken::Took(
             Operand {
                 given: true,
@@ -252,15 +275,16 @@ pub fn set_at(t: &[u8; 256], text: &[u8], reader: Reader) -> Measured
     let mut next = reader;
     let mut left = text.len() + 1;
     while 0 < left {
-        match next_member(t, text, next) {
-            Membered::Took(_, r) => {
-                count += 1;
-                next = r;
+        match next.inside_with(t, text) {
+            Step::Took(token, r) => {
+                if is_sort(6, token) {
+                    count += 1;
+                    next = r;
+                } else {
+                    return set_end(count, token, r);
+                }
             }
-            Membered::Other(token, r) => {
-                return set_end(count, token, r);
-            }
-            Membered::Refused(g) => {
+            Step::Refused(g) => {
                 return Measured::Refused(g);
             }
         }

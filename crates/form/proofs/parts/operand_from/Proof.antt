@@ -6,14 +6,11 @@ use Rattle.form.proofs.parts.operand_from.Tie as tie
 is-part-requires : tie.Need-is-part-requires
 is-part-requires c κs = search needs
 
-part-of-requires : tie.Need-part-of-requires
-part-of-requires c κs = search needs
-
-part-width-requires : tie.Need-part-width-requires
-part-width-requires c κs = rw (c .part-of .ensures) (c .before .before .before .before .pre .2 .width (sym (c .before .before .is-part .ensures) ∙ c .before .if1 .taken))
+token-width-requires : tie.Need-token-width-requires
+token-width-requires c κs = c .before .before .before .pre .2 .width (sym (c .before .is-part .ensures) ∙ c .if1 .taken)
 
 returns : tie.Need-returns
-returns c = rw (← c .before .before .before .is-part .ensures, c .before .before .if1 .taken, ← c .before .part-of .ensures, ← c .part-width .ensures)
+returns c = rw (← c .before .before .is-part .ensures, c .before .if1 .taken, ← c .token-width .ensures)
 
 is-mark-requires : tie.Need-is-mark-requires
 is-mark-requires c κs = search needs
@@ -38,8 +35,7 @@ operand-from-spec =
     tie.close
     (tie.spec
     is-part-requires
-    part-of-requires
-    part-width-requires
+    token-width-requires
     returns
     is-mark-requires
     concat-requires
