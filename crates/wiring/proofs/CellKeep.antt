@@ -1,7 +1,7 @@
 -- A cell that passed the rules, kept: there is room for what is written, and afterwards it is noted with all that was.
 -- Assumes nothing.
 use mathlib.Core.Path.{_≡_, refl, sym, ap, subst, _∙_}
-use mathlib.Core.Bool.{Bool, true, false, _&&_}
+use mathlib.Core.Bool.{Bool, true, false, _&&_, _||_}
 use mathlib.Core.List.{List, [], _∷_, _++_}
 use Prim.Native.Nat.{ℕ, _+_, _*_, _<_, _≤_}
 use native.Mathlib.Omega.{arith}
@@ -11,7 +11,7 @@ use lib.Seq.{sets}
 use borrow.Author.Tests.{eqb-false}
 use Rattle.ground.specs.Choice.{pick}
 use Rattle.ground.specs.Refusals.{refusal}
-use Rattle.ground.proofs.Bools.{bool-cases, and-false}
+use Rattle.ground.proofs.Bools.{bool-cases, and-false, or-false}
 use Rattle.ground.specs.declared.Place.{Place}
 use Rattle.lexis.specs.Pieces.{decoded}
 use Rattle.kinds.specs.Kinds.{kindAt, outputKind}
@@ -26,6 +26,8 @@ use Rattle.saying.specs.Pieces.{operandPieces}
 use Rattle.saying.specs.Notes.{cellNote, Spells}
 use Rattle.saying.specs.Rules.{Sofar, cellOf, piecesOf}
 use Rattle.laying.specs.Holding.{Holds, Held, Room, Counted}
+use Rattle.laying.specs.Bare.{someBare, cellBare, Covers}
+use Rattle.laying.proofs.Covering.{operand-covers, covers-join}
 use Rattle.laying.specs.declared.Laid.{Laid}
 use Rattle.laying.specs.declared.Counts.{Counts}
 use Rattle.laying.specs.declared.CellLaying.the-variants as cellLaying
@@ -88,6 +90,14 @@ module _ (text : List ℕ) (w : Wiring) (i : WiringIn text w) where
         i .c .width,
         f .all,
       )
+
+-- THE RUNS of a cell without a bare part cover its pieces
+cell-covers : (text : List ℕ) (w : Wiring) → cellBare text w ≡ false
+    → Covers (operandRuns text (w .a) ++ (operandRuns text (w .b) ++ operandRuns text (w .c))) (operandPieces text (w .a) ++ (operandPieces text (w .b) ++ operandPieces text (w .c)))
+cell-covers text w e =
+    let p = or-false (someBare (partsAt text (w .a))) (someBare (partsAt text (w .b)) || someBare (partsAt text (w .c))) e in
+    let q = or-false (someBare (partsAt text (w .b))) (someBare (partsAt text (w .c))) (p .1) in
+    covers-join (operand-covers text (w .a) (p .0)) (covers-join (operand-covers text (w .b) (q .0)) (operand-covers text (w .c) (q .1)))
 
 -- A CELL TO BE KEPT
 module _ (text : List ℕ) (so : Sofar) (n : Tally) (rows bits work : List ℕ) (h : Noted text so n rows bits work) (w : Wiring) (i : WiringIn text w) (short : length text ≤ 65536) (p : Passed w n) where
@@ -174,7 +184,7 @@ module _ (text : List ℕ) (so : Sofar) (n : Tally) (rows bits work : List ℕ) 
           roomy-more (so .netlist) c r (omega (arith, keep-few)) (omega (arith, o .bits, t .declared)) (omega (arith, o .outputs, t .outputs, out-is text w i so))
           (omega (arith, counted .holds .long, length-append (runsOf (so .netlist .cells)) (cellRuns c))) (omega (arith, o .name, name-long text w i)) (omega (arith, o .strings, t .strings, name-long text w i))
 
-      pub keep-more : Kept text so index place w (noting.More (tallyWith n w (counts .so))) rows″ bits′ work′
+      pub keep-more : Kept text so index place w (noting.More (tallyWith n w (counts .so) (counts .bare))) rows″ bits′ work′
       keep-more = (
         room-more,
         record {
@@ -187,12 +197,13 @@ module _ (text : List ℕ) (so : Sofar) (n : Tally) (rows bits work : List ℕ) 
               (l .keptBits .before 0 131072 (omega arith)) (worked .metas) (h .metas);
           ios = ios-same text (so .netlist .ios) (else .before 9219 192 (omega arith) ∙ l .keptRows .before 9219 192 (omega arith)) (h .ios);
           cells =
-              held-more text (so .netlist .cells) (so .cellNumbers) (so .pieces) (cellsIn rows) (runsIn rows) (runTritsIn bits) (cellMapIn work) (placesIn work) (laidOf n) (h .cells)
+              held-more text (so .netlist .cells) (so .cellNumbers) (so .pieces) (cellsIn rows) (runsIn rows) (runTritsIn bits) (cellMapIn work) (placesIn work) (laidOf n) (n .bare) (h .cells)
               c (nameFrom w) index (w .a) (w .b) (w .c) keep-few (name-spells text w i) (known-most text w i so keep-fits) fresh small
               (n .cells * 9) (n .cells * 3) (n .cells + 1) (ap (λ (m : ℕ). m * 9) (h .tally .cells)) (ap (λ (m : ℕ). m * 3) (h .tally .cells)) (ap (λ (m : ℕ). m + 1) (h .tally .cells))
-              cells-are (subst (λ (t : List ℕ). Holds (runsOf (so .netlist .cells) ++ cellRuns c) t (runTritsIn bits′) (counts .so)) (sym runs-are) (counted .holds)) (worked .numbered) (worked .places);
+              cells-are (subst (λ (t : List ℕ). Holds (runsOf (so .netlist .cells) ++ cellRuns c) t (runTritsIn bits′) (counts .so)) (sym runs-are) (counted .holds)) (worked .numbered) (worked .places)
+              (n .bare || counts .bare) (λ e. let b = or-false (n .bare) (counts .bare) e in (b .0, cell-covers text w (sym (l .tells) ∙ b .1)));
           tally =
-              tallied-more (so .netlist) c n (tallyWith n w (counts .so)) (h .tally) room-more refl refl refl refl refl
+              tallied-more (so .netlist) c n (tallyWith n w (counts .so) (counts .bare)) (h .tally) room-more refl refl refl refl refl
               (omega (arith, counted .holds .count, h .tally .runs, length-append (runsOf (so .netlist .cells)) (cellRuns c)))
               (omega (arith, counted .holds .filled, h .tally .known, runBits-append (runsOf (so .netlist .cells)) (cellRuns c)))
               refl (ap (λ (m : ℕ). n .outputs + m) (sym (out-is text w i so))) (ap (λ (m : ℕ). n .strings + m) (sym (name-long text w i)));

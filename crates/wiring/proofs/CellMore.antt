@@ -1,6 +1,7 @@
 -- The cells noted so far, with one more.
 -- Assumes nothing.
 use mathlib.Core.Path.{_≡_, refl, sym, ap, subst, _∙_}
+use mathlib.Core.Bool.{Bool, false}
 use mathlib.Core.List.{List, [], _∷_, _++_, map, append-assoc, append-nil}
 use Prim.Native.Nat.{ℕ, zero, suc, _+_, _*_, _<_, _≤_}
 use native.Mathlib.Omega.{arith}
@@ -17,6 +18,8 @@ use Rattle.saying.specs.Values.{rowOf}
 use Rattle.saying.specs.Notes.{CellNote, cellNote, cellsSaid, Spells, SpellCells, none, more, operandWord, Maps}
 use Rattle.asking.proofs.RowLaws.{joined-length}
 use Rattle.laying.specs.Holding.{Holds}
+use Rattle.laying.specs.Bare.{Covers}
+use Rattle.laying.proofs.Covering.{covers-join}
 use Rattle.laying.specs.declared.Laid.{Laid}
 use Rattle.noting.specs.Noted.{CellsHeld}
 use Rattle.wiring.proofs.CellLists.{joined-append, joined-more, map-more}
@@ -38,8 +41,8 @@ three-pieces : (text : List ℕ) (a b c : Operand) → joined (operandPieces tex
 unfolding joined
 three-pieces text a b c = rw append-nil
 
-module _ (text : List ℕ) (cs : List Cell) (numbers : List ℕ) (pieces : List PieceAt) (cells runs trits numbered places : List ℕ) (laid : Laid)
-    (h : CellsHeld text cs numbers pieces cells runs trits numbered places laid) where
+module _ (text : List ℕ) (cs : List Cell) (numbers : List ℕ) (pieces : List PieceAt) (cells runs trits numbered places : List ℕ) (laid : Laid) (bare : Bool)
+    (h : CellsHeld text cs numbers pieces cells runs trits numbered places laid bare) where
   pub noted-count : length (h .notes) ≡ length cs
   noted-count = sym (length-mapped (λ (x : CellNote). x .cell) (h .notes)) ∙ ap length (h .said)
 
@@ -49,7 +52,8 @@ module _ (text : List ℕ) (cs : List Cell) (numbers : List ℕ) (pieces : List 
       (is-cells : cells′ ≡ sets cells k (cellNote (record { cell = c; nameAt = at })))
       (is-runs : Holds (runsOf cs ++ cellRuns c) runs′ trits′ laid′)
       (is-map : numbered′ ≡ set numbered i v)
-      (is-places : places′ ≡ sets places j (operandWord oa ∷ operandWord ob ∷ operandWord oc ∷ [])) where
+      (is-places : places′ ≡ sets places j (operandWord oa ∷ operandWord ob ∷ operandWord oc ∷ []))
+      (bare′ : Bool) (covers : bare′ ≡ false → (bare ≡ false) × Covers (cellRuns c) (operandPieces text oa ++ (operandPieces text ob ++ operandPieces text oc))) where
     abbrev x : CellNote
     x = record { cell = c; nameAt = at }
 
@@ -79,7 +83,7 @@ module _ (text : List ℕ) (cs : List Cell) (numbers : List ℕ) (pieces : List 
     runs-are : runsOf (cs ++ (c ∷ [])) ≡ runsOf cs ++ cellRuns c
     runs-are = joined-more cellRuns cs c
 
-    pub held-more : CellsHeld text (cs ++ (c ∷ [])) (numbers ++ (i ∷ [])) (pieces ++ (operandPieces text oa ++ (operandPieces text ob ++ operandPieces text oc))) cells′ runs′ trits′ numbered′ places′ laid′
+    pub held-more : CellsHeld text (cs ++ (c ∷ [])) (numbers ++ (i ∷ [])) (pieces ++ (operandPieces text oa ++ (operandPieces text ob ++ operandPieces text oc))) cells′ runs′ trits′ numbered′ places′ laid′ bare′
     held-more =
         let w : v ≡ length numbers + 1 = omega (arith, h .count) in
         record {
@@ -95,4 +99,5 @@ module _ (text : List ℕ) (cs : List Cell) (numbers : List ℕ) (pieces : List 
           placed = places-more;
           threes = length-append (h .operands) (oa ∷ ob ∷ oc ∷ []) ∙ omega (arith, h .threes, length-more);
           asked = joined-append (operandPieces text) (h .operands) (oa ∷ ob ∷ oc ∷ []) ∙ rw (h .asked, three-pieces text oa ob oc);
+          covered = λ e. rw runs-are (covers-join (h .covered (covers e .0)) (covers e .1));
         }

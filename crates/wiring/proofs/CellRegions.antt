@@ -12,6 +12,7 @@ use Rattle.form.specs.declared.Wiring.{Wiring}
 use Rattle.netlist.specs.Netlist.{Run}
 use Rattle.saying.specs.Values.{operandRuns}
 use Rattle.laying.specs.Holding.{Holds, CellAfter}
+use Rattle.laying.specs.Bare.{cellBare, CellTellsBare}
 use Rattle.laying.specs.declared.Laid.{Laid}
 use Rattle.laying.specs.declared.CellLaying.{CellLaying}
 use Rattle.noting.specs.Noted.{runsIn, runTritsIn, cellMapIn, metaMapIn, placesIn}
@@ -51,11 +52,13 @@ work-with n index w l p q h a b =
 pub runs-with : (text : List ℕ) (w : Wiring) (so : Laid) (rows bits : List ℕ) (r : CellLaying) (runs trits : List ℕ) → length rows ≡ 26307 → length bits ≡ 393728
     → length runs ≡ 12288 → length trits ≡ 262656
     → ((rs : List Run) → Holds rs (runsIn rows) (runTritsIn bits) so → CellAfter rs (operandRuns text (w .a)) (operandRuns text (w .b)) (operandRuns text (w .c)) r runs trits)
+    → CellTellsBare (cellBare text w) r
     → RunsWith text w so rows bits r (put 14019 12288 rows runs) (put 131072 262656 bits trits)
-runs-with text w so rows bits r runs trits h k i j laid = record {
+runs-with text w so rows bits r runs trits h k i j laid tells = record {
   laid = λ rs o.
       subst (λ (t : List ℕ). CellAfter rs (operandRuns text (w .a)) (operandRuns text (w .b)) (operandRuns text (w .c)) r t (runTritsIn (put 131072 262656 bits trits))) (sym (part-put 14019 12288 rows runs (omega arith) i))
       (subst (λ (t : List ℕ). CellAfter rs (operandRuns text (w .a)) (operandRuns text (w .b)) (operandRuns text (w .c)) r runs t) (sym (part-put 131072 262656 bits trits (omega arith) j)) (laid rs o));
+  tells = tells;
   keptRows = same-put 14019 12288 rows runs (omega arith) i;
   keptBits = same-put 131072 262656 bits trits (omega arith) j;
 }

@@ -19,6 +19,7 @@ use Rattle.saying.specs.Values.{rowOf, nameIn, operandRuns}
 use Rattle.saying.specs.Notes.{CellNote, cellNote, cellsSaid, SpellCells, operandWord, Maps}
 use Rattle.saying.specs.Rules.{Sofar, declares, cellOf, piecesOf, withCell}
 use Rattle.laying.specs.Holding.{Holds, CellAfter}
+use Rattle.laying.specs.Bare.{cellBare, CellTellsBare}
 use Rattle.laying.specs.declared.Laid.{Laid}
 use Rattle.laying.specs.declared.Counts.{Counts}
 use Rattle.laying.specs.declared.CellLaying.{CellLaying}
@@ -65,8 +66,8 @@ tight n w =
     (ltb 16384 (n .strings + nameSize w)))))
 
 -- what is counted with the cell
-abbrev pub tallyWith : Tally → Wiring → Laid → Tally
-tallyWith n w so = record {
+abbrev pub tallyWith : Tally → Wiring → Laid → Bool → Tally
+tallyWith n w so bare = record {
   metas = n .metas;
   ios = n .ios;
   cells = n .cells + 1;
@@ -77,6 +78,7 @@ tallyWith n w so = record {
   declared = n .declared + w .width;
   outputs = n .outputs + outBits w;
   strings = n .strings + nameSize w;
+  bare = n .bare || bare;
 }
 
 -- THE ROW, and where its operands are read
@@ -110,6 +112,7 @@ pub record WorkWith (n index : ℕ) (w : Wiring) (old new : List ℕ) : Type 0 w
 pub record RunsWith (text : List ℕ) (w : Wiring) (so : Laid) (rows bits : List ℕ) (r : CellLaying) (rows′ bits′ : List ℕ) : Type 0 where
   pub laid : (rs : List Run) → Holds rs (runsIn rows) (runTritsIn bits) so
       → CellAfter rs (operandRuns text (w .a)) (operandRuns text (w .b)) (operandRuns text (w .c)) r (runsIn rows′) (runTritsIn bits′)
+  pub tells : CellTellsBare (cellBare text w) r
   pub keptRows : SameBut 14019 12288 rows rows′
   pub keptBits : SameBut 131072 262656 bits bits′
 

@@ -2,7 +2,7 @@
 // operands and its number are noted in the lent tables. It promises the refusal that the rules give, or tables that note one
 // declaration more. Noting, asking and laying stand below it, reading above.
 ghost use mathlib.Core.Path.{_≡_};
-ghost use mathlib.Core.Bool.{true, false, not, _&&_};
+ghost use mathlib.Core.Bool.{true, false, not, _&&_, _||_};
 ghost use mathlib.Core.List.{List, [], _∷_};
 ghost use Prim.Native.Nat.{ℕ, _+_, _*_, _<_, _≤_};
 ghost use lib.ListN.{length, set};
@@ -104,9 +104,18 @@ fn is_tight(n: Tally, w: Wiring) -> bool
     16384 < n.strings + size
 }
 
-fn tally_with(n: Tally, w: Wiring, so: Laid) -> Tally
+fn either(a: bool, b: bool) -> bool
+    ensures { λ r. ⌜ r ≡ (a || b) ⌝ }
+{
+    if a {
+        return true;
+    }
+    b
+}
+
+fn tally_with(n: Tally, w: Wiring, so: Laid, bare: bool) -> Tally
     requires { ⌜ (n .cells ≤ 4096) × (n .declared ≤ 4096) × (n .outputs ≤ 4096) × (n .strings ≤ 16384) × (w .a .width ≤ 256) × (nameSize w ≤ 255) ⌝ }
-    ensures { λ r. ⌜ r ≡ tallyWith n w so ⌝ }
+    ensures { λ r. ⌜ r ≡ tallyWith n w so bare ⌝ }
 {
     Tally {
         metas: n.metas,
@@ -119,6 +128,7 @@ fn tally_with(n: Tally, w: Wiring, so: Laid) -> Tally
         declared: n.declared + (w.width as usize),
         outputs: n.outputs + output_bits(w),
         strings: n.strings + name_size(w),
+        bare: either(n.bare, bare),
     }
 }
 
@@ -275,7 +285,7 @@ fn keep_cell(
     };
     note_row(rows, n.cells, w, meta, counts);
     note_work(work, n.cells, index, w);
-    Noting::More(tally_with(n, w, counts.so))
+    Noting::More(tally_with(n, w, counts.so, counts.bare))
 }
 
 // Rule 12.

@@ -36,7 +36,7 @@ same-length-2 c = search needs
 
 returns : tie.Need-returns
 unfolding part
-returns c = let s = c .before .before .before .before .before .before .before .before .before .before in let a = s .args in let x = part-length 14019 12288 (a .rows .now) (omega (arith, s .pre .2)) in let y = part-length 131072 262656 (a .bits .now) (omega (arith, s .pre .3)) in runs-with (a .text .now) (a .w) (a .so) (a .rows .now) (a .bits .now) _ _ _ (s .pre .2) (s .pre .3) (omega (arith, c .before .before .before .before .lay-cell .kept, x)) (omega (arith, c .before .before .before .before .lay-cell .kept, y)) (c .before .before .before .before .lay-cell .ensures)
+returns c = let s = c .before .before .before .before .before .before .before .before .before .before in let a = s .args in let x = part-length 14019 12288 (a .rows .now) (omega (arith, s .pre .2)) in let y = part-length 131072 262656 (a .bits .now) (omega (arith, s .pre .3)) in runs-with (a .text .now) (a .w) (a .so) (a .rows .now) (a .bits .now) _ _ _ (s .pre .2) (s .pre .3) (omega (arith, c .before .before .before .before .lay-cell .kept, x)) (omega (arith, c .before .before .before .before .lay-cell .kept, y)) (c .before .before .before .before .lay-cell .ensures .0) (c .before .before .before .before .lay-cell .ensures .1)
 
 pub lay-runs-spec : {M : Type 1} → statement M
 lay-runs-spec =
