@@ -33,6 +33,7 @@ use Rattle.saying.specs.Pieces.{PieceAt, operandPieces, firstUnresolved}
 use Rattle.saying.specs.Rules.{Sofar, nothing, saidBy, added, piecesOf, cellOf, ruledOut}
 use Rattle.saying.specs.Notes.{none, Maps}
 use Rattle.laying.proofs.Keeping.{hold-none}
+use Rattle.laying.proofs.Covering.{covers-none}
 use Rattle.noting.specs.Noted.{Noted, Tallied}
 use Rattle.noting.specs.declared.Tally.{Tally}
 use Rattle.resolving.specs.Resolving.{isDeclared}
@@ -141,6 +142,7 @@ noted-nothing text rows bits work z =
         placed = zeros-part 131072 1536 132608 (omega arith);
         threes = refl;
         asked = refl;
+        covered = λ e. covers-none;
       };
       tally = record { metas = refl; ios = refl; cells = refl; members = refl; trits = refl; runs = refl; known = refl; declared = refl; outputs = refl; strings = refl; roomy = refl };
     })

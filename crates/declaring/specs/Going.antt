@@ -1,6 +1,6 @@
 -- The declarations of a text while they are noted, one after the other.
 use mathlib.Core.Path.{_≡_}
-use mathlib.Core.Bool.{true}
+use mathlib.Core.Bool.{true, false}
 use mathlib.Core.List.{List}
 use mathlib.Core.Option.{none, some}
 use Prim.Native.Nat.{ℕ, suc, _+_}
@@ -27,7 +27,7 @@ use Rattle.declaring.specs.declared.declarations.Told.{Told}
 use Rattle.declaring.specs.declared.declarations.Told.the-variants as told
 
 abbrev pub noTally : Tally
-noTally = record { metas = 0; ios = 0; cells = 0; members = 0; trits = 0; runs = 0; known = 0; declared = 0; outputs = 0; strings = 0 }
+noTally = record { metas = 0; ios = 0; cells = 0; members = 0; trits = 0; runs = 0; known = 0; declared = 0; outputs = 0; strings = 0; bare = false }
 
 -- the sort of a declaration
 abbrev pub sortOf : Decl → Sort

@@ -43,6 +43,7 @@ fn no_tally() -> Tally
         declared: 0,
         outputs: 0,
         strings: 0,
+        bare: false,
     }
 }
 
