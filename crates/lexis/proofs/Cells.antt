@@ -1,4 +1,4 @@
--- The cell identifier of good index and parts.
+-- The cell identifier of good index and parts, and the byte that begins it.
 use mathlib.Core.Path.{_≡_, refl}
 use mathlib.Core.Bool.{Bool, true, false, not, _||_}
 use mathlib.Core.List.{List}
@@ -6,7 +6,8 @@ use Prim.Native.Nat.{ℕ, _+_}
 use lib.Dec.{eqb}
 use Rattle.ground.specs.Choice.{pick}
 use Rattle.ground.proofs.Bools.{never-both, or-false}
-use Rattle.lexis.specs.Tokens.{cellTook, cellFrom, placeholderFrom, opensPlaceholder}
+use Rattle.lexis.specs.Bytes.{classFrom, classOf}
+use Rattle.lexis.specs.Tokens.{cellTook, cellFrom, placeholderFrom, opensPlaceholder, cellOf, longOf}
 use Rattle.lexis.specs.declared.pieces.Numeral.{Numeral}
 use Rattle.lexis.specs.declared.pieces.Suffix.{Suffix}
 
@@ -28,3 +29,8 @@ good-cell text k i o w c ei eo ew ec =
     let pw = good-part w ew in
     let pc = good-part c ec in
     rw (m .1, n .0, m .0, po .0, po .1, pw .0, pw .1, pc .0, pc .1)
+
+-- `%` is no letter, no constant and no other token's first byte
+pub cell-begun : (text : List ℕ) (k b : ℕ) → b ≡ 37 → cellOf text k ≡ longOf text k b
+unfolding longOf classOf classFrom
+cell-begun text k b e = rw e

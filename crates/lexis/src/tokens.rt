@@ -423,11 +423,15 @@ fn io(t: &[u8; 256], text: &[u8], k: usize) -> Step
     refused(5, k)
 }
 
-// A token that the byte b begins and that is no line end and no special character.
+// A token that the byte b begins and that is no line end and no special character. Most are cell identifiers, so these are asked
+// for first.
 fn long(t: &[u8; 256], text: &[u8], k: usize, b: u8) -> Step
     requires { ⌜ (now t ≡ table) × (k < length (now text)) ⌝ }
     ensures { λ r. ⌜ r ≡ longOf (now (text .entry)) k b ⌝ }
 {
+    if b == 37 {
+        return cell(text, k);
+    }
     if in_classes(t, 7, 8, b) {
         return word(t, text, k);
     }
@@ -442,9 +446,6 @@ fn long(t: &[u8; 256], text: &[u8], k: usize, b: u8) -> Step
     }
     if b == 38 {
         return io(t, text, k);
-    }
-    if b == 37 {
-        return cell(text, k);
     }
     if b == 34 {
         return string(t, text, k);
