@@ -20,7 +20,7 @@ use Rattle.numbering.proofs.Laws.{widths-of, numbers-of, widths-length, numbers
 use Rattle.celllines.specs.CellLines.{cellLines, naming}
 use Rattle.printing.specs.Lines.{metaLines, ioLines, isBare, lines, canonical}
 use Rattle.printing.specs.Pools.{pools}
-use Rattle.printing.specs.Whole.{linesThen, canonicalThen, Sound}
+use Rattle.printing.specs.Whole.{canonicalThen, Sound}
 use Rattle.printing.proofs.Views.{metas-by-pools, ios-by-pools, runs-by-trits, cells-by-strings}
 
 module _ {T : Tables} (s : Sound T) {numbers widths : List ℕ} (e : widths ≡ rowWidths (T .cellCount) (T .cells)) (f : numbers ≡ numbersBy 0 widths) where
@@ -48,8 +48,8 @@ module _ {T : Tables} (s : Sound T) {numbers widths : List ℕ} (e : widths ≡ 
   numbers-held = f ∙ ap (numbersBy 0) widths-held ∙ sym (numbers-of 0 cs)
 
   lines-held : (k : List ℕ) → metaLines 0 (metasIn (pools (T .strings) (T .members) (T .attrBits)) (T .metaCount) (T .metas)) (ioLines (iosIn (pools (T .strings) [] []) (T .ioCount) (T .ios))
-      (cellLines numbers widths numbers (cellsIn (naming (T .strings)) (heldRuns (T .runs) (T .runBits)) (length numbers) (T .cells)) k)) ≡ linesThen (view T) k
-  unfolding linesThen view
+      (cellLines numbers widths numbers (cellsIn (naming (T .strings)) (heldRuns (T .runs) (T .runBits)) (length numbers) (T .cells)) k)) ≡ lines (view T) k
+  unfolding lines view
   lines-held k =
       let m = sym (metas-by-pools T (T .metaCount) (T .metas)) in
       let o = sym (ios-by-pools T (T .ioCount) (T .ios)) in
@@ -58,7 +58,7 @@ module _ {T : Tables} (s : Sound T) {numbers widths : List ℕ} (e : widths ≡ 
   pub joined-lines : {l l₁ l₂ l₃ : List ℕ} {n₁ n₂ n₃ : ℕ} → Wrote l 0 (metaLines 0 (metasIn (pools (T .strings) (T .members) (T .attrBits)) (T .metaCount) (T .metas))) l₁ n₁
       → Wrote l₁ n₁ (ioLines (iosIn (pools (T .strings) [] []) (T .ioCount) (T .ios))) l₂ n₂
       → Wrote l₂ n₂ (cellLines numbers widths numbers (cellsIn (naming (T .strings)) (heldRuns (T .runs) (T .runBits)) (length numbers) (T .cells))) l₃ n₃
-      → Wrote l 0 (linesThen (view T)) l₃ n₃
+      → Wrote l 0 (lines (view T)) l₃ n₃
   joined-lines p q r = same-text (then p (then q r)) lines-held
 
 -- tables show as many rows as they count
@@ -92,13 +92,13 @@ module _ {T : Tables} (s : Sound T) {l l′ : List ℕ} {n r : ℕ} {b : Bool} (
   unfolding canonicalThen
   bare-text h p = same-text p (λ k. let f : isBare (view T) ≡ true = bare-is T ∙ sym e ∙ h in rw f)
 
-  pub full-text : b ≡ false → Wrote l n (linesThen (view T)) l′ r → Wrote l n (canonicalThen (view T)) l′ r
+  pub full-text : b ≡ false → Wrote l n (lines (view T)) l′ r → Wrote l n (canonicalThen (view T)) l′ r
   unfolding canonicalThen
   full-text h p = same-text p (λ k. let f : isBare (view T) ≡ false = bare-is T ∙ sym e ∙ h in rw f)
 
 -- the text alone
 pub nothing-more : (N : Netlist) → canonicalThen N [] ≡ canonical N
-unfolding canonicalThen canonical linesThen lines
+unfolding canonicalThen canonical
 nothing-more N = refl
 
 -- the count of a text, up to the largest one

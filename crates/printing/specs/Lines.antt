@@ -71,10 +71,10 @@ ioLines (i ∷ is) k = ioLine i (ioLines is k)
 abbrev pub isBare : Netlist → Bool
 isBare N = eqb (length (N .metas)) 0 && (eqb (length (N .ios)) 0 && eqb (length (N .cells)) 0)
 
-unfoldable pub lines : Netlist → List ℕ
-lines N =
+unfoldable pub lines : Netlist → List ℕ → List ℕ
+lines N k =
     metaLines 0 (N .metas) (ioLines (N .ios)
-    (cellLines (numbersFrom 0 (N .cells)) (widthsOf (N .cells)) (numbersFrom 0 (N .cells)) (N .cells) []))
+    (cellLines (numbersFrom 0 (N .cells)) (widthsOf (N .cells)) (numbersFrom 0 (N .cells)) (N .cells) k))
 
 unfoldable pub canonical : Netlist → List ℕ
-canonical N = pick (isBare N) (10 ∷ []) (lines N)
+canonical N = pick (isBare N) (10 ∷ []) (lines N [])

@@ -2,24 +2,18 @@
 use Prim.Native.Nat.{ℕ, _≤_}
 use mathlib.Core.Path.{_≡_}
 use mathlib.Core.Bool.{true}
-use mathlib.Core.List.{List, [], _∷_}
+use mathlib.Core.List.{List, _∷_}
 use lib.ListN.{length}
 use Rattle.ground.specs.Choice.{pick}
 use Rattle.ground.specs.Lists.{every}
 use Rattle.netlist.specs.Netlist.{Netlist}
-use Rattle.netlist.specs.Rules.{isTrit, widthsOf}
+use Rattle.netlist.specs.Rules.{isTrit}
 use Rattle.netlist.specs.Tables.{Tables}
-use Rattle.numbering.specs.Numbers.{numbersFrom, rowWidths, narrow}
-use Rattle.celllines.specs.CellLines.{cellLines}
-use Rattle.printing.specs.Lines.{metaLines, ioLines, isBare}
-
-unfoldable pub linesThen : Netlist → List ℕ → List ℕ
-linesThen N k =
-    metaLines 0 (N .metas) (ioLines (N .ios)
-    (cellLines (numbersFrom 0 (N .cells)) (widthsOf (N .cells)) (numbersFrom 0 (N .cells)) (N .cells) k))
+use Rattle.numbering.specs.Numbers.{rowWidths, narrow}
+use Rattle.printing.specs.Lines.{isBare, lines}
 
 unfoldable pub canonicalThen : Netlist → List ℕ → List ℕ
-canonicalThen N k = pick (isBare N) (10 ∷ k) (linesThen N k)
+canonicalThen N k = pick (isBare N) (10 ∷ k) (lines N k)
 
 -- regions of their lengths, rows within the limits, trits that are trits, widths within the limit
 pub record Sound (T : Tables) : Type 0 where

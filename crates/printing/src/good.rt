@@ -9,8 +9,8 @@ ghost use Rattle.netlist.specs.View.{view};
 ghost use Rattle.checking.specs.Parts.{regions};
 ghost use Rattle.writing.specs.Stands.{most, Wrote};
 ghost use Rattle.numbering.specs.Numbers.{rowWidths, numbersBy};
-ghost use Rattle.printing.specs.Lines.{canonical};
-ghost use Rattle.printing.specs.Whole.{linesThen, canonicalThen, Sound};
+ghost use Rattle.printing.specs.Lines.{lines, canonical};
+ghost use Rattle.printing.specs.Whole.{canonicalThen, Sound};
 use crate::ios::put_ios;
 use crate::metas::put_metas;
 use celllines::put_cells;
@@ -35,7 +35,7 @@ fn put_lines(
     widths: &[u32],
 ) -> usize
     requires { ⌜ Sound (regions nm ni (length (now widths)) (now metas) (now members) (now ios) (now cells) (now runs) (now strings) (now attrs) (now trits)) × (now widths ≡ rowWidths (length (now widths)) (now cells)) × (now numbers ≡ numbersBy 0 (now widths)) ⌝ }
-    ensures { λ r. ⌜ Wrote (now (room .entry)) 0 (linesThen (view (regions nm ni (length (now (widths .entry))) (now (metas .entry)) (now (members .entry)) (now (ios .entry)) (now (cells .entry)) (now (runs .entry)) (now (strings .entry)) (now (attrs .entry)) (now (trits .entry))))) (now (room .exit)) r ⌝ }
+    ensures { λ r. ⌜ Wrote (now (room .entry)) 0 (lines (view (regions nm ni (length (now (widths .entry))) (now (metas .entry)) (now (members .entry)) (now (ios .entry)) (now (cells .entry)) (now (runs .entry)) (now (strings .entry)) (now (attrs .entry)) (now (trits .entry))))) (now (room .exit)) r ⌝ }
 {
     let n = put_metas(room, 0, metas, nm, strings, members, attrs);
     let n = put_ios(room, n, ios, ni, strings);
