@@ -3,6 +3,7 @@ pub mod Keeping
 pub mod Joining
 pub mod Copying
 pub mod Adding
+pub mod Spotting
 pub mod Turning
 pub mod Inside
 pub mod Walking

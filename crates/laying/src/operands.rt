@@ -9,6 +9,7 @@ use form::Piece;
 use form::parts::is_part;
 use form::parts::part_of;
 use form::parts::str_of;
+use ground::Place;
 use lexis::Reader;
 use lexis::Step;
 use lexis::Token;
@@ -53,6 +54,15 @@ fn or_bare(bare: bool, token: Token) -> bool
         return true;
     }
     is_bare(token)
+}
+
+fn or_none(bare: bool, width: u32) -> bool
+    ensures { λ r. ⌜ r ≡ (bare || eqb width 0) ⌝ }
+{
+    if bare {
+        return true;
+    }
+    width == 0
 }
 
 // The part that a token is, behind those that are laid. Only a repetition is made into a part first: most tokens are none.
@@ -107,6 +117,7 @@ pub(crate) fn lay_alone(
 }
 
 // An operand between brackets, whose `[` is read. Each part takes a byte at least, so the text's length bounds their number.
+// A piece without a count is laid by its numbers: most parts are such pieces, and a token of each costs more than the laying.
 pub(crate) fn lay_within(
     t: &[u8; 256],
     text: &[u8],
@@ -124,6 +135,32 @@ pub(crate) fn lay_within(
     let mut next = reader;
     let mut left = text.len() + 1;
     while 0 < left {
+        let spot = next.spot_with(t, text);
+        if spot.closed {
+            return OperandLaying::Laid(used, bare);
+        }
+        if spot.found {
+            let added = add_piece(
+                runs,
+                first,
+                used,
+                Piece {
+                    cell: spot.cell,
+                    offset: spot.offset,
+                    width: spot.width,
+                },
+            );
+            let Laying::Laid(more) = added else {
+                return OperandLaying::Full;
+            };
+            bare = or_none(bare, spot.width);
+            used = more;
+            next = Reader {
+                next: Place { at: spot.end },
+            };
+            left -= 1;
+            continue;
+        }
         let step = next.inside_with(t, text);
         let Step::Took(token, behind) = step else {
             return OperandLaying::Laid(used, bare);
