@@ -4,7 +4,7 @@ use mathlib.Core.List.{List}
 use Prim.Native.Nat.{ℕ}
 use Rattle.ground.proofs.Outcome.{any-two}
 use Rattle.form.specs.Words.{isSort, isMark, isSpelled, kindOf}
-use Rattle.form.specs.Parts.{isPart, str, partOf, partWidth, nextPart, operandAt, ref, nextMember, setAt}
+use Rattle.form.specs.Parts.{isPart, str, partOf, nextPart, operandAt, ref, nextMember, setAt}
 use Rattle.form.specs.Forms.{formAt, formOf}
 use Rattle.form.specs.Walks.{walkOf, walkStep, tourAt, tourStep}
 
@@ -62,9 +62,6 @@ one-str = any-two str
 
 pub one-part : One partOf
 one-part = any-two partOf
-
-pub one-part-width : One partWidth
-one-part-width = any-two partWidth
 
 pub one-ref : One ref
 one-ref = any-two ref

@@ -64,25 +64,6 @@ pub fn part_of(token: Token) -> Part
     Part::One(base_of(token))
 }
 
-fn base_width(base: Base) -> u64
-    ensures { λ r. ⌜ r ≡ baseWidth base ⌝ }
-{
-    match base {
-        Base::Constant(s) => s.size as u64,
-        Base::Cell(p) => p.width as u64,
-    }
-}
-
-pub fn part_width(part: Part) -> u64
-    requires { ⌜ partWidth part ≤ widest ⌝ }
-    ensures { λ r. ⌜ r ≡ partWidth part ⌝ }
-{
-    match part {
-        Part::One(b) => base_width(b),
-        Part::Repeated(b, n) => (n as u64) * base_width(b),
-    }
-}
-
 // The width of the base that a token is or repeats.
 fn alone_width(token: Token) -> u64
     ensures { λ r. ⌜ r ≡ baseWidth (baseOf token) ⌝ }
