@@ -18,9 +18,11 @@ nameText given name k = pick given (32 ∷ quoted name k) k
 unfoldable pub operandText : Bool → List ℕ → List ℕ → List Run → List ℕ → List ℕ
 operandText given numbers widths rs k = pick given (32 ∷ operand numbers widths rs k) k
 
+abbrev pub furtherText : List ℕ → List ℕ → ℕ → Cell → List ℕ → List ℕ
+furtherText numbers widths count c k = operandText (leb 2 count) numbers widths (c .b) (operandText (leb 3 count) numbers widths (c .c) k)
+
 abbrev pub operandsText : List ℕ → List ℕ → ℕ → Cell → List ℕ → List ℕ
-operandsText numbers widths count c k =
-    operandText (leb 1 count) numbers widths (c .a) (operandText (leb 2 count) numbers widths (c .b) (operandText (leb 3 count) numbers widths (c .c) k))
+operandsText numbers widths count c k = operandText (leb 1 count) numbers widths (c .a) (furtherText numbers widths count c k)
 
 -- "declarations always have `:w`"
 abbrev pub declared : ℕ → ℕ → String → List ℕ → List ℕ

@@ -14,7 +14,7 @@ ghost use Rattle.netlist.specs.View.{cellIn, cellsIn};
 ghost use Rattle.writing.specs.Words.{text};
 ghost use Rattle.writing.specs.Stands.{Wrote};
 ghost use Rattle.operands.specs.Operands.{heldRuns};
-ghost use Rattle.celllines.specs.CellLines.{declared, nameText, operandText, operandsText, cellLine, cellLines, naming};
+ghost use Rattle.celllines.specs.CellLines.{declared, nameText, operandText, furtherText, operandsText, cellLine, cellLines, naming};
 use kinds::has_name;
 use kinds::operands_of;
 use operands::put_operand;
@@ -41,8 +41,9 @@ fn at_least(k: u8, count: u8) -> bool
     k <= count
 }
 
-// A kind's keyword.
-fn put_keyword(room: &mut [u8], n: usize, kind: u8) -> usize
+// The keyword of one of the first six kinds.
+fn put_first_words(room: &mut [u8], n: usize, kind: u8) -> usize
+    requires { ⌜ kind < 7 ⌝ }
     ensures { λ r. ⌜ Wrote (now (room .entry)) n (text (kindAt kind .word)) (now (room .exit)) r ⌝ }
 {
     if kind == 1 {
@@ -63,6 +64,14 @@ fn put_keyword(room: &mut [u8], n: usize, kind: u8) -> usize
     if kind == 6 {
         return put_all(room, n, b"or");
     }
+    n
+}
+
+// The keyword of one of the last six kinds.
+fn put_last_words(room: &mut [u8], n: usize, kind: u8) -> usize
+    requires { ⌜ 7 ≤ kind ⌝ }
+    ensures { λ r. ⌜ Wrote (now (room .entry)) n (text (kindAt kind .word)) (now (room .exit)) r ⌝ }
+{
     if kind == 7 {
         return put_all(room, n, b"xor");
     }
@@ -82,6 +91,16 @@ fn put_keyword(room: &mut [u8], n: usize, kind: u8) -> usize
         return put_all(room, n, b"slt");
     }
     n
+}
+
+// A kind's keyword.
+fn put_keyword(room: &mut [u8], n: usize, kind: u8) -> usize
+    ensures { λ r. ⌜ Wrote (now (room .entry)) n (text (kindAt kind .word)) (now (room .exit)) r ⌝ }
+{
+    if kind < 7 {
+        return put_first_words(room, n, kind);
+    }
+    put_last_words(room, n, kind)
 }
 
 fn put_name(room: &mut [u8], n: usize, given: bool, strings: &[u8], from: u32, size: u32) -> usize
@@ -115,6 +134,46 @@ fn put_given(
     n
 }
 
+// The second and third operand of a cell.
+fn put_further(
+    room: &mut [u8],
+    n: usize,
+    numbers: &[u32],
+    widths: &[u32],
+    count: u8,
+    row: &[u32],
+    runs: &[u32],
+    trits: &[u8],
+) -> usize
+    requires { ⌜ (length (now row) ≡ 9) × (length (now runs) ≡ 12288) × (every isTrit (now trits) ≡ true) ⌝ }
+    ensures { λ r. ⌜ Wrote (now (room .entry)) n (furtherText (now (numbers .entry)) (now (widths .entry)) count (cellIn (naming []) (heldRuns (now (runs .entry)) (now (trits .entry))) (now (row .entry)))) (now (room .exit)) r ⌝ }
+{
+    let second = wide(row[5]) + wide(row[6]);
+    let m = put_given(
+        room,
+        n,
+        at_least(2, count),
+        numbers,
+        widths,
+        runs,
+        trits,
+        second,
+        row[7],
+    );
+    let third = second + wide(row[7]);
+    put_given(
+        room,
+        m,
+        at_least(3, count),
+        numbers,
+        widths,
+        runs,
+        trits,
+        third,
+        row[8],
+    )
+}
+
 // The operands of a cell.
 fn put_operands(
     room: &mut [u8],
@@ -129,9 +188,6 @@ fn put_operands(
     requires { ⌜ (length (now row) ≡ 9) × (length (now runs) ≡ 12288) × (every isTrit (now trits) ≡ true) ⌝ }
     ensures { λ r. ⌜ Wrote (now (room .entry)) n (operandsText (now (numbers .entry)) (now (widths .entry)) count (cellIn (naming []) (heldRuns (now (runs .entry)) (now (trits .entry))) (now (row .entry)))) (now (room .exit)) r ⌝ }
 {
-    let first = wide(row[5]);
-    let second = first + wide(row[6]);
-    let third = second + wide(row[7]);
     let m = put_given(
         room,
         n,
@@ -140,31 +196,10 @@ fn put_operands(
         widths,
         runs,
         trits,
-        first,
+        wide(row[5]),
         row[6],
     );
-    let m = put_given(
-        room,
-        m,
-        at_least(2, count),
-        numbers,
-        widths,
-        runs,
-        trits,
-        second,
-        row[7],
-    );
-    put_given(
-        room,
-        m,
-        at_least(3, count),
-        numbers,
-        widths,
-        runs,
-        trits,
-        third,
-        row[8],
-    )
+    put_further(room, m, numbers, widths, count, row, runs, trits)
 }
 
 // A cell's number, width and keyword.
