@@ -1,8 +1,9 @@
-//! Worked texts, one a line, as `crates/readings/stdin` has them, and the line that tells what reading answers.
+//! Worked texts, one a line, as `crates/readings/stdin` has them, and the line that tells what reading or printing answers.
 //!
 //! `\n`, `\r`, `\t`, `\\` and `\xHH` are escapes, and other bytes stand for themselves. `\{N|BODY}` stands for BODY N times, where `\#`
 //! is the number of the round, from 0 on; `}` within a body is written `\x7d`. `\@K ` at the front lets rounds begin at K.
 
+use crate::reading::canonical;
 use crate::{read_into, Refusal, Tables, Work};
 
 /// The text that a line says; `None` if the line is not of this form.
@@ -96,6 +97,27 @@ pub fn answer(text: &[u8], tables: &mut Tables, work: &mut Work) -> String {
     }
 }
 
+/// What printing answers to the tables of a text, in the words of `crates/printings/stdout` behind the line and its arrow.
+pub fn printed(text: &[u8], tables: &mut Tables, work: &mut Work) -> String {
+    match read_into(text, tables, work) {
+        Err(Refusal { number, place }) => format!("refused {number} at {place}"),
+        Ok(()) => told(canonical(tables).as_bytes()),
+    }
+}
+
+/// A canonical text as a line, if it has at most 2,000 bytes, else how long it is and a sum over it.
+pub fn told(text: &[u8]) -> String {
+    if text.len() > 2_000 {
+        return format!("{} bytes, sum {}", text.len(), sum(text.iter().map(|&byte| byte.into())));
+    }
+    let tell = |&byte: &u8| match byte {
+        b'\n' => "\\n".into(),
+        b'\\' => "\\\\".into(),
+        _ => char::from(byte).to_string(),
+    };
+    text.iter().map(tell).collect()
+}
+
 /// Each value times its place, counted from 1, added up modulo the largest prime below 2^32.
 fn sum(values: impl Iterator<Item = u32>) -> u64 {
     (1..).zip(values).fold(0, |sum, (place, value)| (sum + place * u64::from(value)) % 4_294_967_291)
@@ -115,6 +137,15 @@ mod tests {
         for bad in [&b"\\"[..], b"\\q", b"\\x", b"\\x0", b"\\xg0", b"\\#", b"\\{1|a", b"\\{|a}", b"\\{1}", b"\\@1"] {
             assert_eq!(text(bad), None, "{bad:?}");
         }
+    }
+
+    #[test]
+    fn printing_tells_the_canonical_text() {
+        let (mut tables, mut work) = (Tables::new(), Work::new());
+        assert_eq!(printed(b"", &mut tables, &mut work), "refused 4 at 0");
+        assert_eq!(printed(b"%3:1=input\t\"\\5c\"\n", &mut tables, &mut work), "%0:1 = input \"\\\\5c\"\\n");
+        assert_eq!(told(&[1; 2_000]), "\u{1}".repeat(2_000));
+        assert_eq!(told(&[1; 2_001]), format!("2001 bytes, sum {}", 2_001 * 2_002 / 2));
     }
 
     #[test]
