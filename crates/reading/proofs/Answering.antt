@@ -10,7 +10,9 @@ use lib.Dec.{ltb}
 use lib.ListN.{length, getD, length-append, List·getD-append}
 use lib.Seq.{getD-append-add}
 use borrow.Author.Tests.{lt-ltb, le-ltb}
+use Rattle.ground.specs.Choice.{pick}
 use Rattle.ground.specs.Lists.{joined, every}
+use Rattle.ground.proofs.Bools.{never-both}
 use Rattle.ground.proofs.Outcome.{any-two}
 use Rattle.ground.specs.Regions.{pad, zeros, over}
 use Rattle.ground.specs.Refusals.{at, refusal}
@@ -18,24 +20,25 @@ use Rattle.ground.specs.declared.Place.{Place}
 use Rattle.ground.specs.declared.Refusal.{Refusal}
 use Rattle.lexis.specs.Whole.{wholeOf}
 use Rattle.lexis.specs.declared.Whole.the-variants as whole
-use Rattle.netlist.specs.Netlist.{Cell, Netlist}
+use Rattle.netlist.specs.Netlist.{Cell, Netlist, runsOf}
 use Rattle.netlist.specs.Rules.{widthsOf}
 use Rattle.netlist.specs.Good.{short}
 use Rattle.saying.specs.Pieces.{operandPieces, firstUnresolved}
 use Rattle.saying.specs.Rules.{Sofar}
 use Rattle.saying.specs.Notes.{CellNote, cellNote, cellsSaid}
 use Rattle.settling.proofs.Left.{length-mapped}
-use Rattle.noting.specs.Noted.{cellsIn, cellMapIn, placesIn, Noted}
+use Rattle.noting.specs.Noted.{cellsIn, runsIn, cellMapIn, placesIn, Noted}
 use Rattle.noting.specs.declared.Tally.{Tally}
-use Rattle.resolving.specs.Resolving.{Looks, lostAt, lostOf}
+use Rattle.resolving.specs.Resolving.{Looks, rowsResolve, lostAt, lostOf}
 use Rattle.resolving.specs.declared.Lost.{Lost}
 use Rattle.resolving.specs.declared.Lost.the-variants as lost
 use Rattle.resolving.proofs.Finding.{all-found}
+use Rattle.resolving.proofs.RunsFound.{runs-sound}
 use Rattle.declaring.specs.Reading.{Reading, says, refused, declarationsFrom, netlistOf, readSound, reading}
 use Rattle.reading.specs.Outcome.{Outcome, made, left, filled, behindRows, behindStrings, behindBits, behindWork, readOf}
 use Rattle.finishing.specs.Finish.{Ready, Settled}
 use Rattle.declaring.specs.Going.{Blank, Whole, AllNoted, AllOf}
-use Rattle.reading.specs.Answers.{FindsLost, Laid, AnswersOf, Answers, ClearsOf, Clears, Ends}
+use Rattle.reading.specs.Answers.{rowsFound, FindsLost, Laid, AnswersOf, Answers, ClearsOf, Clears, Ends}
 use Rattle.reading.specs.declared.Read.{Read}
 use Rattle.reading.specs.declared.Read.the-variants as read
 use Rattle.declaring.specs.declared.declarations.Told.{Told}
@@ -71,6 +74,21 @@ lost-found text n rows work r e = record {
       (d .cells .threes ∙ ap (λ (k : ℕ). k * 3) (sym (d .tally .cells)))
       ∙ ap (λ (ps : List _). lostAt (firstUnresolved (so .cellNumbers) (widthsOf (so .netlist .cells)) ps)) (d .cells .asked);
 }
+
+-- run rows that tell that all is found
+pub rows-tell : (text : List ℕ) (n : Tally) (rows work : List ℕ) → rowsFound n rows work ≡ true → FindsLost text n rows work lost.Nowhere
+rows-tell text n rows work e = record {
+  is = λ so bits d.
+      let t = both (n .bare) (rowsResolve (cellMapIn work) (cellsIn rows) (n .runs) (runsIn rows)) e in
+      let resolved =
+      runs-sound (so .cellNumbers) (widthsOf (so .netlist .cells)) (cellMapIn work) (cellsIn rows) (looks text so n rows bits work d) (runsOf (so .netlist .cells)) (runsIn rows) (n .runs)
+      (d .cells .holds .rows) (sym (d .cells .holds .count)) (t .1) in
+      ap lostAt (sym (d .cells .covered (t .0) .all (so .cellNumbers) (widthsOf (so .netlist .cells)) resolved));
+}
+  where
+    both : (b r : Bool) → pick b false r ≡ true → (b ≡ false) × (r ≡ true)
+    both true r e = never-both e refl
+    both false r e = (refl, e)
 
 -- THE END of a reading whose declarations are all noted
 abbrev whereLost : Lost → ℕ

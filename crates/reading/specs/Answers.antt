@@ -1,21 +1,27 @@
 -- What the steps of a reading answer.
 use mathlib.Core.Path.{_≡_}
+use mathlib.Core.Bool.{Bool, false}
 use mathlib.Core.List.{List}
 use Prim.Native.Nat.{ℕ}
+use Rattle.ground.specs.Choice.{pick}
 use Rattle.ground.specs.Regions.{zeros}
 use Rattle.netlist.specs.Rules.{widthsOf}
 use Rattle.netlist.specs.Netlist.{Netlist}
 use Rattle.netlist.specs.Tables.{layout, rowsOf, bitsOf, rowsLength, stringsLength, bitsLength}
 use Rattle.saying.specs.Pieces.{firstUnresolved}
 use Rattle.saying.specs.Rules.{Sofar}
-use Rattle.noting.specs.Noted.{Noted}
+use Rattle.noting.specs.Noted.{cellsIn, runsIn, cellMapIn, Noted}
 use Rattle.noting.specs.declared.Tally.{Tally}
-use Rattle.resolving.specs.Resolving.{lostAt}
+use Rattle.resolving.specs.Resolving.{rowsResolve, lostAt}
 use Rattle.resolving.specs.declared.Lost.{Lost}
 use Rattle.declaring.specs.Reading.{says, refused, readSound}
 use Rattle.declaring.specs.Going.{Whole}
 use Rattle.reading.specs.declared.Read.{Read}
 use Rattle.reading.specs.declared.Read.the-variants as read
+
+-- 14 of the run rows, where no part was bare
+abbrev pub rowsFound : Tally → List ℕ → List ℕ → Bool
+rowsFound n rows work = pick (n .bare) false (rowsResolve (cellMapIn work) (cellsIn rows) (n .runs) (runsIn rows))
 
 -- 14 of all that is noted
 pub record FindsLost (text : List ℕ) (n : Tally) (rows work : List ℕ) (r : Lost) : Type 0 where

@@ -5,18 +5,38 @@ use ground::Refusal;
 use noting::Tally;
 use resolving::Lost;
 use resolving::first_lost;
+use resolving::runs_resolve;
 ghost use mathlib.Core.Path.{_≡_};
 ghost use Prim.Native.Nat.{_≤_};
 ghost use lib.ListN.{length};
 ghost use Rattle.ground.specs.Regions.{zeros};
 ghost use Rattle.lexis.specs.Bytes.{table};
-ghost use Rattle.reading.specs.Answers.{FindsLost, SomeWhole, Ends};
+ghost use Rattle.reading.specs.Answers.{rowsFound, FindsLost, SomeWhole, Ends};
 
-// The first piece of the text that does not resolve.
+// Whether the run rows tell that each piece of the text resolves. A part without bits leaves no run: where one was read, they tell nothing.
+fn all_found(rows: &[u32], work: &[u32], n: Tally) -> bool
+    requires { ⌜ (length (now rows) ≡ 26307) × (length (now work) ≡ 132608) × (n .runs ≤ 4096) ⌝ }
+    ensures { λ r. ⌜ r ≡ rowsFound n (now (rows .entry)) (now (work .entry)) ⌝ }
+{
+    if n.bare {
+        return false;
+    }
+    runs_resolve(
+        &work[0..65536],
+        &rows[9411..14019],
+        &rows[14019..26307],
+        n.runs,
+    )
+}
+
+// The first piece of the text that does not resolve; the text is read again only where the run rows do not tell that each does.
 fn lost_piece(t: &[u8; 256], text: &[u8], rows: &[u32], work: &[u32], n: Tally) -> Lost
-    requires { ⌜ (now t ≡ table) × (length (now text) ≤ 65536) × (length (now rows) ≡ 26307) × (length (now work) ≡ 132608) × (n .cells ≤ 512) ⌝ }
+    requires { ⌜ (now t ≡ table) × (length (now text) ≤ 65536) × (length (now rows) ≡ 26307) × (length (now work) ≡ 132608) × (n .cells ≤ 512) × (n .runs ≤ 4096) ⌝ }
     ensures { λ r. ⌜ FindsLost (now (text .entry)) n (now (rows .entry)) (now (work .entry)) r ⌝ }
 {
+    if all_found(rows, work, n) {
+        return Lost::Nowhere;
+    }
     first_lost(
         t,
         text,
