@@ -6,6 +6,8 @@ use native.Mathlib.Omega.{arith}
 use native.Mathlib.Numerals.{add-one}
 use lib.ListN.{length, set, drop, getD}
 use lib.Seq.{sets, set-out}
+use Rattle.ground.specs.Regions.{over}
+use Rattle.ground.proofs.Lent.{sets-front}
 use Rattle.ground.proofs.Rest.{rest-cons, rest-end}
 use Rattle.writing.specs.Stands.{Stand, most, onward, Wrote, Leaves}
 
@@ -74,3 +76,15 @@ module _ {l l′ : List ℕ} {n n′ : ℕ} {f : List ℕ → List ℕ} (s : Lis
 
   pub word-end : length s ≤ i → Wrote l n f l′ n′
   word-end h = ended w (λ k. rw (rest-end s i h))
+
+-- a whole text written from the start of a room: its length is counted, up to the largest count, and it stands in the room if it fits
+module _ {l l′ : List ℕ} {r : ℕ} {f : List ℕ → List ℕ} (p : Wrote l 0 f l′ r) where
+  pub counted : r ≤ most → r ≡ min (length (f [])) most
+  unfolding onward
+  counted h =
+      let e : min (r + 0) most ≡ min (0 + length (f [])) most = ap (λ (x : Stand). x .count) (p .goes []) in
+      omega (arith, e)
+
+  pub standing : length (f []) ≤ length l → l′ ≡ over (length (f [])) (f []) l
+  unfolding onward
+  standing h = ap (λ (x : Stand). x .room) (p .goes []) ∙ sets-front l (f []) h

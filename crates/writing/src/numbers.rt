@@ -118,7 +118,7 @@ pub fn put_number(room: &mut [u8], n: usize, x: u32) -> usize
 }
 
 // A number that holds a sign in its highest bit.
-fn put_signed(room: &mut [u8], n: usize, x: u32) -> usize
+pub fn put_signed(room: &mut [u8], n: usize, x: u32) -> usize
     ensures { λ r. ⌜ Wrote (now (room .entry)) n (λ t. signed x ++ t) (now (room .exit)) r ⌝ }
 {
     if 2147483648 <= x {
