@@ -48,12 +48,15 @@ pub record Outcome : Type 0 where
 abbrev pub made : Named → List ℕ → Outcome
 made answer room = record { answer = answer; room = room }
 
--- 16, then 24; "Room past an answer is unchanged"
+-- 24; "Room past an answer is unchanged"
+abbrev pub given : List ℕ → List ℕ → Outcome
+given name room =
+    pick (ltb (length room) (length name)) (made (named.Refused (refusal 24 (at 0))) room)
+    (made (named.Length (length name)) (over (length name) name room))
+
+-- 16, then 24
 unfoldable pub written : Netlist → ℕ → List ℕ → Outcome
-written N row room =
-    pick (not (isIdent N row)) (made (named.Refused (refusal 16 (at 0))) room)
-    (pick (ltb (length room) (length (fullName N row))) (made (named.Refused (refusal 24 (at 0))) room)
-    (made (named.Length (length (fullName N row))) (over (length (fullName N row)) (fullName N row) room)))
+written N row room = pick (not (isIdent N row)) (made (named.Refused (refusal 16 (at 0))) room) (given (fullName N row) room)
 
 abbrev after : Checked → List ℕ → Outcome → Outcome
 after checked.Good room o = o

@@ -1,0 +1,68 @@
+use mathlib.Core.Path.{sym, _∙_}
+use native.Mathlib.Omega.{arith}
+use Rattle.checking.proofs.Top.{checked-good}
+use Rattle.naming.proofs.Naming.{cut-rising, not-named, is-named}
+use borrow.Author.Needs.{needs}
+use Rattle.naming.proofs.full_name.Statement.{statement}
+use Rattle.naming.proofs.full_name.Tie as tie
+
+check-tables-requires : tie.Need-check-tables-requires
+check-tables-requires c κs = search needs
+
+enum-known-g : tie.Need-enum-known-g
+enum-known-g c = search needs
+
+enum-told : tie.Need-enum-told
+enum-told c = search needs
+
+sub-name-in : tie.Need-sub-name-in
+sub-name-in c = omega arith
+
+part-name-in-start : tie.Need-part-name-in-start
+part-name-in-start c = omega arith
+
+part-name-in-end : tie.Need-part-name-in-end
+part-name-in-end c = let a = c .before .before .before .before .before .before .before .before .args in let k = checked-good (a .rows .now) (a .strings .now) (a .bits .now) (sym (c .before .before .before .check-tables .ensures) ∙ c .before .enum-told .given .1) in omega (arith, k .0 .rows-long)
+
+sub-name-in-2 : tie.Need-sub-name-in-2
+sub-name-in-2 c = omega arith
+
+part-name-in-start-2 : tie.Need-part-name-in-start-2
+part-name-in-start-2 c = omega arith
+
+part-name-in-end-2 : tie.Need-part-name-in-end-2
+part-name-in-end-2 c = let a = c .before .before .before .before .before .before .before .before .before .args in let k = checked-good (a .rows .now) (a .strings .now) (a .bits .now) (sym (c .before .before .before .before .check-tables .ensures) ∙ c .before .before .enum-told .given .1) in omega (arith, k .0 .strings-long)
+
+shared-slice-read-name-in : tie.Need-shared-slice-read-name-in
+shared-slice-read-name-in c = let a = c .before .before .before .before .before .before .before .before .before .before .before .args in let k = checked-good (a .rows .now) (a .strings .now) (a .bits .now) (sym (c .before .before .before .before .before .before .check-tables .ensures) ∙ c .before .before .before .before .enum-told .given .1) in omega (arith, k .0 .rows-long)
+
+name-in-requires : tie.Need-name-in-requires
+name-in-requires c κs = let a = c .before .before .before .before .before .before .before .before .before .before .before .args in cut-rising (a .rows .now) (a .strings .now) (a .bits .now) (sym (c .before .before .before .before .before .before .check-tables .ensures) ∙ c .before .before .before .before .enum-told .given .1)
+
+returns : tie.Need-returns
+returns c = let a = c .before .before .before .before .before .before .before .before .args in not-named (a .rows .now) (a .strings .now) (a .bits .now) (a .row) (a .room .now) _ (sym (c .before .before .before .check-tables .ensures) ∙ c .before .g .given .1)
+
+same-length : tie.Need-same-length
+same-length c = search needs
+
+returns-2 : tie.Need-returns-2
+returns-2 c = let a = c .before .before .before .before .before .before .before .before .before .before .before .before .before .before .args in is-named (a .rows .now) (a .strings .now) (a .bits .now) (a .row) (a .room .now) _ (sym (c .before .before .before .before .before .before .before .before .before .check-tables .ensures) ∙ c .before .before .before .before .before .before .before .enum-told .given .1) (c .before .before .name-in .ensures)
+
+pub full-name-spec : {M : Type 1} → statement M
+full-name-spec =
+    tie.close
+    (tie.spec
+    check-tables-requires
+    enum-known-g
+    enum-told
+    sub-name-in
+    part-name-in-start
+    part-name-in-end
+    sub-name-in-2
+    part-name-in-start-2
+    part-name-in-end-2
+    shared-slice-read-name-in
+    name-in-requires
+    returns
+    same-length
+    returns-2)
