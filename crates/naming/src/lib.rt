@@ -1,6 +1,6 @@
 // Naming: the full name of an ident, parent first. It promises the name, its length and every byte of the room as the definitions
 // of specs/ give them. The check of tables stands below it, the programs above.
-pub mod names;
+mod names;
 
 use checking::check_tables;
 use ground::Place;

@@ -26,7 +26,7 @@ fn parent_of(metas: &[u32], row: usize) -> usize
     wide(field_of(metas, row, 9))
 }
 
-pub fn is_ident(metas: &[u32], count: u32, row: usize) -> bool
+pub(crate) fn is_ident(metas: &[u32], count: u32, row: usize) -> bool
     requires { ⌜ (length (now metas) ≡ 8192) × (count ≤ 512) ⌝ }
     ensures { λ r. ⌜ r ≡ identAt count (now (metas .entry)) row ⌝ }
 {
@@ -78,7 +78,7 @@ fn put_under(room: &mut [u8], n: usize, metas: &[u32], strings: &[u8], row: usiz
 }
 
 // The full name of a row: its parent's first, which is an earlier row.
-pub fn put_name(room: &mut [u8], n: usize, metas: &[u32], strings: &[u8], row: usize) -> usize
+pub(crate) fn put_name(room: &mut [u8], n: usize, metas: &[u32], strings: &[u8], row: usize) -> usize
     requires { ⌜ Rising (row + 1) (now metas) ⌝ }
     ensures { λ r. ⌜ Wrote (now (room .entry)) n (λ k. nameAt row (now (metas .entry)) (now (strings .entry)) row ++ k) (now (room .exit)) r ⌝ }
 {
@@ -91,7 +91,7 @@ pub fn put_name(room: &mut [u8], n: usize, metas: &[u32], strings: &[u8], row: u
 }
 
 // The length of the full name of a row, which is counted where there is no room for it.
-pub fn count_name(metas: &[u32], strings: &[u8], row: usize) -> usize
+pub(crate) fn count_name(metas: &[u32], strings: &[u8], row: usize) -> usize
     requires { ⌜ Rising (row + 1) (now metas) ⌝ }
     ensures { λ r. ⌜ r ≡ min (length (nameAt row (now (metas .entry)) (now (strings .entry)) row)) most ⌝ }
 {

@@ -170,7 +170,7 @@ fn put_measured(
 }
 
 // The text of good tables into lent room, as far as it has place.
-pub fn put_good(
+pub(crate) fn put_good(
     room: &mut [u8],
     metas: &[u32],
     members: &[u32],
@@ -208,7 +208,7 @@ pub fn put_good(
 }
 
 // The length of the text of good tables, which is counted where there is no room for it.
-pub fn count_good(
+pub(crate) fn count_good(
     metas: &[u32],
     members: &[u32],
     ios: &[u32],

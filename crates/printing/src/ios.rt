@@ -27,7 +27,7 @@ fn put_io(room: &mut [u8], n: usize, row: &[u32], strings: &[u8]) -> usize
 }
 
 // The lines of all I/O.
-pub fn put_ios(room: &mut [u8], n: usize, rows: &[u32], count: u32, strings: &[u8]) -> usize
+pub(crate) fn put_ios(room: &mut [u8], n: usize, rows: &[u32], count: u32, strings: &[u8]) -> usize
     requires { ⌜ (length (now rows) ≡ 192) × (count ≤ 64) ⌝ }
     ensures { λ r. ⌜ Wrote (now (room .entry)) n (ioLines (iosIn (pools (now (strings .entry)) [] []) count (now (rows .entry)))) (now (room .exit)) r ⌝ }
 {

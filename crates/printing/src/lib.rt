@@ -1,8 +1,8 @@
 // Printing: the canonical text of the netlist in lent tables. It promises the text, its length and every byte of the room as the
 // definitions of specs/ give them. The check of tables stands below it, the programs above.
-pub mod good;
-pub mod ios;
-pub mod metas;
+mod good;
+mod ios;
+mod metas;
 
 use checking::check_tables;
 use checkmeta::rows::word_of;

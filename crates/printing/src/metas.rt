@@ -166,7 +166,7 @@ fn put_meta(
 }
 
 // The lines of all metadata.
-pub fn put_metas(
+pub(crate) fn put_metas(
     room: &mut [u8],
     n: usize,
     rows: &[u32],
