@@ -30,7 +30,7 @@ fn widths() -> Vec<Case> {
     pair(odd, twin)
 }
 
-/// Cells with so many constant bits that the canonical text has from 65,535 to 65,537 bytes, and 69,000.
+/// Cells with so many constant bits that the canonical text has from 65,535 to 65,537 bytes, and 68,816.
 fn around() -> Vec<Case> {
     let bits = "X".repeat(256);
     let mut cases = Vec::new();
