@@ -1,7 +1,7 @@
 -- Worked cases, computed: names over three levels with a negative index, rows that are no ident, and rooms too short, exact and longer.
 use Prim.Native.Nat.{ℕ}
 use mathlib.Core.Path.{_≡_, refl}
-use mathlib.Core.List.{List, [], _∷_, _++_, map}
+use mathlib.Core.List.{List, [], _∷_, map}
 use lib.ListN.{replicate}
 use Rattle.ground.specs.Lists.{total, joined}
 use Rattle.ground.specs.Refusals.{at, refusal}

@@ -1,7 +1,7 @@
 -- The names of good tables, by their rows as by the netlist that they show; and the outcome of naming.
 use Prim.Native.Nat.{ℕ, zero, suc, _+_, _-_, _*_, _<_, _≤_}
 use mathlib.Core.Path.{_≡_, refl, sym, ap, _∙_}
-use mathlib.Core.Bool.{Bool, true, false, not, _&&_, _||_}
+use mathlib.Core.Bool.{Bool, true, false, _&&_}
 use mathlib.Core.List.{List, [], _∷_, _++_}
 use native.Mathlib.Omega.{arith}
 use lib.Dec.{leb, ltb, eqb}
@@ -9,7 +9,6 @@ use lib.ListN.{length, take, drop, getD, length-append}
 use lib.Seq.{getD-drop, drop-drop}
 use borrow.Author.Tests.{eq-eqb, ne-eqb, eqb-true, eqb-false, leb-true, ltb-true}
 use Rattle.ground.specs.Choice.{pick}
-use Rattle.ground.specs.Refusals.{at, refusal}
 use Rattle.ground.specs.Regions.{part}
 use Rattle.ground.specs.declared.Refusal.{Refusal}
 use Rattle.ground.proofs.Bools.{bool-cases, never-both, and-true, fact}
@@ -18,7 +17,7 @@ use Rattle.netlist.specs.Netlist.{Meta, Netlist, isScope, indexedMeta, identMet
 use Rattle.netlist.specs.Rules.{refers, mayRefer, metaSound, metasSound, valid}
 use Rattle.netlist.specs.Tables.{Tables, tablesIn}
 use Rattle.netlist.specs.View.{metaIn, metasIn, view}
-use Rattle.netlist.specs.Good.{laid, good, checkOf, netlistIn}
+use Rattle.netlist.specs.Good.{laid, good, checkOf}
 use Rattle.netlist.specs.declared.Checked.the-variants as checked
 use Rattle.netlist.proofs.Laying.{valid-roomy, valid-metas}
 use Rattle.checking.proofs.Top.{checked-good, cut-length}
@@ -110,7 +109,6 @@ module _ (T : Tables) where
   name-same (suc f) row g h =
       let e = inside-at row h in
       let p = g .earlier row h in
-      let up = parentAt (T .metas) row in
       bool-cases (eqb (parentAt (T .metas) row) 0)
       (λ b. let z = eqb-true _ _ b in stop-from N f row (e ∙ z) ∙ own-at row h ∙ sym (stop (T .metas) (T .strings) f row z))
       (λ b.
