@@ -10,6 +10,7 @@ use Rattle.ground.specs.Refusals.{at, refusal}
 use Rattle.ground.specs.Regions.{part, over}
 use Rattle.ground.specs.declared.Refusal.{Refusal}
 use Rattle.ground.proofs.Outcome.{any-two}
+use Rattle.netlist.specs.Netlist.{Netlist}
 use Rattle.netlist.specs.Tables.{Tables, tablesIn}
 use Rattle.netlist.specs.View.{view}
 use Rattle.netlist.specs.Good.{good, checkOf, netlistIn}
@@ -17,6 +18,7 @@ use Rattle.netlist.specs.declared.Checked.the-variants as checked
 use Rattle.netlist.proofs.Laying.{Long}
 use Rattle.checking.proofs.Top.{cuts}
 use Rattle.writing.specs.Stands.{most, Wrote}
+use Rattle.writing.proofs.Stands.{same-text}
 use Rattle.printing.specs.Lines.{canonical}
 use Rattle.printing.specs.Whole.{canonicalThen, Sound}
 use Rattle.printing.specs.Outcome.{Outcome, made, written, printOf}
@@ -31,16 +33,16 @@ unfolding written
 room-short text room n e h = rw (lt-ltb (length room) (length text) (omega (arith, e)))
 
 -- the room is long enough; as no slice has the largest count of bytes, the count is the length
-pub room-enough : {T : Tables} (s : Sound T) {l l′ : List ℕ} {n r : ℕ} → length l < most → n ≡ min (length (canonical (view T))) most → n ≤ length l → r ≤ most
-    → Wrote l 0 (canonicalThen (view T)) l′ r → made (printed.Length r) l′ ≡ written (canonical (view T)) l
+pub room-enough : (N : Netlist) {l l′ : List ℕ} {n r : ℕ} → length l < most → n ≡ min (length (canonical N)) most → n ≤ length l → r ≤ most
+    → Wrote l 0 (canonicalThen N) l′ r → made (printed.Length r) l′ ≡ written (canonical N) l
 unfolding written
-room-enough {T} s {l} {l′} {n} {r} f e h b p =
-    let text = canonical (view T) in
+room-enough N {l} {l′} {n} {r} f e h b p =
+    let text = canonical N in
     let k : length text ≤ length l = omega (arith, e) in
-    let c = counts s p b in
+    let c = counts N p b in
     let g : r ≡ length text = omega (arith, c, k) in
-    let m = nothing-more (view T) in
-    let q : length (canonicalThen (view T) []) ≤ length l = rw m k in
+    let m = nothing-more N in
+    let q : length (canonicalThen N []) ≤ length l = rw m k in
     let z : l′ ≡ over (length text) text l = standing p q ∙ ap (λ (x : List ℕ). over (length x) x l) m in
     rw (le-ltb (length l) (length text) k) (λ i. made (printed.Length (g i)) (z i))
 
@@ -69,9 +71,9 @@ module _ (rows strings bits : List ℕ) where
         let k : Sound (tables (getD rows 2 0)) = good-sound (tablesIn rows strings bits) long-in g in
         subst (λ (u : ℕ). Sound (tables u)) (sym q) k
 
-  pub cut-written : (n : ℕ) → n ≡ getD rows 2 0 → (room : List ℕ) (o : Outcome) → o ≡ written (canonical (view (tables n))) room → o ≡ written (canonical (netlistIn rows strings bits)) room
+  pub cut-wrote : (n : ℕ) → n ≡ getD rows 2 0 → {l l′ : List ℕ} {r : ℕ} → Wrote l 0 (canonicalThen (view (tables n))) l′ r → Wrote l 0 (canonicalThen (netlistIn rows strings bits)) l′ r
   unfolding tablesIn part
-  cut-written n q room o e = e ∙ ap (λ (u : ℕ). written (canonical (view (tables u))) room) q
+  cut-wrote n q p = same-text p (λ k. ap (λ (u : ℕ). canonicalThen (view (tables u)) k) q)
 
 -- ANY LENT TABLES: 1 and 15 as the check says, else what is written
 module _ (rows strings bits room : List ℕ) where

@@ -102,10 +102,9 @@ unfolding canonicalThen canonical
 nothing-more N = refl
 
 -- the count of a text, up to the largest one
-pub counts : {T : Tables} (s : Sound T) {l l′ : List ℕ} {r : ℕ} → Wrote l 0 (canonicalThen (view T)) l′ r → r ≤ most → r ≡ min (length (canonical (view T))) most
+pub counts : (N : Netlist) {l l′ : List ℕ} {r : ℕ} → Wrote l 0 (canonicalThen N) l′ r → r ≤ most → r ≡ min (length (canonical N)) most
 unfolding onward
-counts {T} s {r} p h =
-    let N = view T in
+counts N {r} p h =
     let e : min (r + 0) most ≡ min (0 + length (canonicalThen N [])) most = ap (λ (x : Stand). x .count) (p .goes []) in
     let f : length (canonicalThen N []) ≡ length (canonical N) = ap (λ (x : List ℕ). length x) (nothing-more N) in
     omega (arith, e, f)

@@ -1,11 +1,13 @@
 // The whole text of good tables.
 ghost use mathlib.Core.Path.{_≡_};
-ghost use mathlib.Core.Bool.{Bool, _&&_};
+ghost use mathlib.Core.Bool.{Bool, true, _&&_};
 ghost use mathlib.Core.List.{List};
-ghost use Prim.Native.Nat.{ℕ, min};
+ghost use Prim.Native.Nat.{ℕ, _≤_, min};
 ghost use lib.Dec.{eqb};
 ghost use lib.ListN.{length};
+ghost use Rattle.netlist.specs.Tables.{tablesIn};
 ghost use Rattle.netlist.specs.View.{view};
+ghost use Rattle.netlist.specs.Good.{good, netlistIn};
 ghost use Rattle.checking.specs.Parts.{regions};
 ghost use Rattle.writing.specs.Stands.{most, Wrote};
 ghost use Rattle.numbering.specs.Numbers.{rowWidths, numbersBy};
@@ -14,6 +16,7 @@ ghost use Rattle.printing.specs.Whole.{canonicalThen, Sound};
 use crate::ios::put_ios;
 use crate::metas::put_metas;
 use celllines::put_cells;
+use checkmeta::rows::word_of;
 use numbering::number_cells;
 use numbering::take_widths;
 use writing::room::put;
@@ -169,8 +172,8 @@ fn put_measured(
     )
 }
 
-// The text of good tables into lent room, as far as it has place.
-pub(crate) fn put_good(
+// The text of tables in their regions.
+fn put_regions(
     room: &mut [u8],
     metas: &[u32],
     members: &[u32],
@@ -207,36 +210,32 @@ pub(crate) fn put_good(
     )
 }
 
+// The text of good tables into lent room, as far as it has place.
+pub(crate) fn put_good(room: &mut [u8], rows: &[u32], strings: &[u8], bits: &[u8]) -> usize
+    requires { ⌜ (26307 ≤ length (now rows)) × (16384 ≤ length (now strings)) × (393728 ≤ length (now bits)) × (good (tablesIn (now rows) (now strings) (now bits)) ≡ true) ⌝ }
+    ensures { λ r. ⌜ Wrote (now (room .entry)) 0 (canonicalThen (netlistIn (now (rows .entry)) (now (strings .entry)) (now (bits .entry)))) (now (room .exit)) r ⌝ }
+{
+    put_regions(
+        room,
+        &rows[3..8195],
+        &rows[8195..9219],
+        &rows[9219..9411],
+        &rows[9411..14019],
+        &rows[14019..26307],
+        &strings[0..16384],
+        &bits[0..131072],
+        &bits[131072..393728],
+        rows[0],
+        rows[1],
+        word_of(rows, 2),
+    )
+}
+
 // The length of the text of good tables, which is counted where there is no room for it.
-pub(crate) fn count_good(
-    metas: &[u32],
-    members: &[u32],
-    ios: &[u32],
-    cells: &[u32],
-    runs: &[u32],
-    strings: &[u8],
-    attrs: &[u8],
-    trits: &[u8],
-    nm: u32,
-    ni: u32,
-    nc: usize,
-) -> usize
-    requires { ⌜ Sound (regions nm ni nc (now metas) (now members) (now ios) (now cells) (now runs) (now strings) (now attrs) (now trits)) ⌝ }
-    ensures { λ r. ⌜ r ≡ min (length (canonical (view (regions nm ni nc (now (metas .entry)) (now (members .entry)) (now (ios .entry)) (now (cells .entry)) (now (runs .entry)) (now (strings .entry)) (now (attrs .entry)) (now (trits .entry)))))) most ⌝ }
+pub(crate) fn count_good(rows: &[u32], strings: &[u8], bits: &[u8]) -> usize
+    requires { ⌜ (26307 ≤ length (now rows)) × (16384 ≤ length (now strings)) × (393728 ≤ length (now bits)) × (good (tablesIn (now rows) (now strings) (now bits)) ≡ true) ⌝ }
+    ensures { λ r. ⌜ r ≡ min (length (canonical (netlistIn (now (rows .entry)) (now (strings .entry)) (now (bits .entry))))) most ⌝ }
 {
     let mut none = [0u8; 1];
-    put_good(
-        &mut none,
-        metas,
-        members,
-        ios,
-        cells,
-        runs,
-        strings,
-        attrs,
-        trits,
-        nm,
-        ni,
-        nc,
-    )
+    put_good(&mut none, rows, strings, bits)
 }

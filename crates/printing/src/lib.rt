@@ -5,7 +5,6 @@ mod ios;
 mod metas;
 
 use checking::check_tables;
-use checkmeta::rows::word_of;
 use good::count_good;
 use good::put_good;
 use ground::Place;
@@ -17,11 +16,8 @@ ghost use Prim.Native.Nat.{_≤_};
 ghost use lib.ListN.{length};
 ghost use Rattle.ground.specs.Refusals.{at, refusal};
 ghost use Rattle.netlist.specs.Tables.{tablesIn};
-ghost use Rattle.netlist.specs.View.{view};
 ghost use Rattle.netlist.specs.Good.{good, netlistIn};
-ghost use Rattle.checking.specs.Parts.{regions};
 ghost use Rattle.printing.specs.Lines.{canonical};
-ghost use Rattle.printing.specs.Whole.{Sound};
 ghost use Rattle.printing.specs.Outcome.{made, written, printOf};
 ghost use Rattle.printing.specs.declared.Printed.the-variants as printed;
 
@@ -39,75 +35,16 @@ fn too_long() -> Printed
 }
 
 // The printing of good tables, which is counted first: a refusal leaves the room as it was.
-fn print_good(
-    room: &mut [u8],
-    metas: &[u32],
-    members: &[u32],
-    ios: &[u32],
-    cells: &[u32],
-    runs: &[u32],
-    strings: &[u8],
-    attrs: &[u8],
-    trits: &[u8],
-    nm: u32,
-    ni: u32,
-    nc: usize,
-) -> Printed
-    requires { ⌜ Sound (regions nm ni nc (now metas) (now members) (now ios) (now cells) (now runs) (now strings) (now attrs) (now trits)) ⌝ }
-    ensures { λ r. ⌜ made r (now (room .exit)) ≡ written (canonical (view (regions nm ni nc (now (metas .entry)) (now (members .entry)) (now (ios .entry)) (now (cells .entry)) (now (runs .entry)) (now (strings .entry)) (now (attrs .entry)) (now (trits .entry))))) (now (room .entry)) ⌝ }
-{
-    let n = count_good(
-        metas,
-        members,
-        ios,
-        cells,
-        runs,
-        strings,
-        attrs,
-        trits,
-        nm,
-        ni,
-        nc,
-    );
-    if room.len() < n {
-        return too_long();
-    }
-    let n = put_good(
-        room,
-        metas,
-        members,
-        ios,
-        cells,
-        runs,
-        strings,
-        attrs,
-        trits,
-        nm,
-        ni,
-        nc,
-    );
-    Printed::Length(n)
-}
-
-// The printing of lent tables that were checked, cut into their regions.
-fn print_checked(rows: &[u32], strings: &[u8], bits: &[u8], room: &mut [u8]) -> Printed
+fn print_good(rows: &[u32], strings: &[u8], bits: &[u8], room: &mut [u8]) -> Printed
     requires { ⌜ (26307 ≤ length (now rows)) × (16384 ≤ length (now strings)) × (393728 ≤ length (now bits)) × (good (tablesIn (now rows) (now strings) (now bits)) ≡ true) ⌝ }
     ensures { λ r. ⌜ made r (now (room .exit)) ≡ written (canonical (netlistIn (now (rows .entry)) (now (strings .entry)) (now (bits .entry)))) (now (room .entry)) ⌝ }
 {
-    print_good(
-        room,
-        &rows[3..8195],
-        &rows[8195..9219],
-        &rows[9219..9411],
-        &rows[9411..14019],
-        &rows[14019..26307],
-        &strings[0..16384],
-        &bits[0..131072],
-        &bits[131072..393728],
-        rows[0],
-        rows[1],
-        word_of(rows, 2),
-    )
+    let n = count_good(rows, strings, bits);
+    if room.len() < n {
+        return too_long();
+    }
+    let n = put_good(room, rows, strings, bits);
+    Printed::Length(n)
 }
 
 // The canonical text of the netlist in lent tables, which are checked first: 1, 15, then 24 where the room is shorter than the text.
@@ -116,6 +53,6 @@ pub fn print_text(rows: &[u32], strings: &[u8], bits: &[u8], room: &mut [u8]) ->
 {
     match check_tables(rows, strings, bits) {
         Checked::Refused(g) => Printed::Refused(g),
-        Checked::Good => print_checked(rows, strings, bits, room),
+        Checked::Good => print_good(rows, strings, bits, room),
     }
 }

@@ -14,8 +14,8 @@ enum-known-g c = search needs
 enum-told : tie.Need-enum-told
 enum-told c = search needs
 
-print-checked-requires : tie.Need-print-checked-requires
-print-checked-requires c κs = let a = c .before .before .before .before .before .before .before .before .args in let k = checked-good (a .rows .now) (a .strings .now) (a .bits .now) (sym (c .before .before .before .check-tables .ensures) ∙ c .before .enum-told .given .1) in (k .0 .rows-long, k .0 .strings-long, k .0 .bits-long, k .1)
+print-good-requires : tie.Need-print-good-requires
+print-good-requires c κs = let a = c .before .before .before .before .before .before .before .before .args in let k = checked-good (a .rows .now) (a .strings .now) (a .bits .now) (sym (c .before .before .before .check-tables .ensures) ∙ c .before .enum-told .given .1) in (k .0 .rows-long, k .0 .strings-long, k .0 .bits-long, k .1)
 
 returns : tie.Need-returns
 returns c = let a = c .before .before .before .before .before .before .before .before .args in not-printed (a .rows .now) (a .strings .now) (a .bits .now) (a .room .now) _ (sym (c .before .before .before .check-tables .ensures) ∙ c .before .g .given .1)
@@ -24,7 +24,7 @@ same-length : tie.Need-same-length
 same-length c = search needs
 
 returns-2 : tie.Need-returns-2
-returns-2 c = let a = c .before .before .before .before .before .before .before .before .before .before .before .args in is-printed (a .rows .now) (a .strings .now) (a .bits .now) (a .room .now) _ (sym (c .before .before .before .before .before .before .check-tables .ensures) ∙ c .before .before .before .before .enum-told .given .1) (c .before .before .print-checked .ensures)
+returns-2 c = let a = c .before .before .before .before .before .before .before .before .before .before .before .args in is-printed (a .rows .now) (a .strings .now) (a .bits .now) (a .room .now) _ (sym (c .before .before .before .before .before .before .check-tables .ensures) ∙ c .before .before .before .before .enum-told .given .1) (c .before .before .print-good .ensures)
 
 pub print-text-spec : {M : Type 1} → statement M
 print-text-spec =
@@ -33,7 +33,7 @@ print-text-spec =
     check-tables-requires
     enum-known-g
     enum-told
-    print-checked-requires
+    print-good-requires
     returns
     same-length
     returns-2)
