@@ -18,12 +18,11 @@ use Rattle.netlist.specs.declared.Checked.the-variants as checked
 use Rattle.netlist.proofs.Laying.{Long}
 use Rattle.checking.proofs.Top.{cuts}
 use Rattle.writing.specs.Stands.{most, Wrote}
-use Rattle.writing.proofs.Stands.{same-text}
+use Rattle.writing.proofs.Stands.{same-text, standing}
 use Rattle.printing.specs.Lines.{canonical}
 use Rattle.printing.specs.Whole.{canonicalThen, Sound}
 use Rattle.printing.specs.Outcome.{Outcome, made, written, printOf}
 use Rattle.printing.specs.declared.Printed.the-variants as printed
-use Rattle.printing.proofs.Views.{standing}
 use Rattle.printing.proofs.Whole.{nothing-more, counts}
 use Rattle.printing.proofs.Sound.{good-sound}
 

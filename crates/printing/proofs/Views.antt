@@ -1,15 +1,11 @@
--- What the entry point of printing needs: rows are read by the pools that they name alone, and what a writer of a whole text leaves.
-use Prim.Native.Nat.{ℕ, zero, suc, _+_, _≤_, min}
-use mathlib.Core.Path.{_≡_, refl, ap, _∙_}
+-- What the entry point of printing needs: rows are read by the pools that they name alone.
+use Prim.Native.Nat.{ℕ, zero, suc}
+use mathlib.Core.Path.{_≡_, refl, ap}
 use mathlib.Core.List.{List, [], _∷_}
-use native.Mathlib.Omega.{arith}
-use lib.ListN.{length, drop}
-use Rattle.ground.specs.Regions.{over}
-use Rattle.ground.proofs.Lent.{sets-front}
+use lib.ListN.{drop}
 use Rattle.netlist.specs.Netlist.{Run, Meta, Io, Cell}
 use Rattle.netlist.specs.Tables.{Tables}
 use Rattle.netlist.specs.View.{metaIn, metasIn, ioIn, iosIn, runIn, runsIn, cellIn, cellsIn}
-use Rattle.writing.specs.Stands.{Stand, most, onward, Wrote}
 use Rattle.operands.specs.Operands.{holding}
 use Rattle.celllines.specs.CellLines.{naming}
 use Rattle.printing.specs.Pools.{pools}
@@ -34,15 +30,3 @@ module _ (T : Tables) where
   unfolding cellsIn
   cells-by-strings pool zero rows = refl
   cells-by-strings pool (suc n) rows = ap (λ (l : List Cell). cellIn T pool rows ∷ l) (cells-by-strings pool n (drop 9 rows))
-
--- a whole text written from the start of a room: its length is counted, and it stands in the room if it fits
-module _ {l l′ : List ℕ} {r : ℕ} {f : List ℕ → List ℕ} (p : Wrote l 0 f l′ r) where
-  pub counted : r ≤ most → length (f []) ≤ most → r ≡ length (f [])
-  unfolding onward
-  counted h k =
-      let e : min (r + 0) most ≡ min (0 + length (f [])) most = ap (λ (x : Stand). x .count) (p .goes []) in
-      omega (arith, e)
-
-  pub standing : length (f []) ≤ length l → l′ ≡ over (length (f [])) (f []) l
-  unfolding onward
-  standing h = ap (λ (x : Stand). x .room) (p .goes []) ∙ sets-front l (f []) h
