@@ -78,7 +78,13 @@ fn put_under(room: &mut [u8], n: usize, metas: &[u32], strings: &[u8], row: usiz
 }
 
 // The full name of a row: its parent's first, which is an earlier row.
-pub(crate) fn put_name(room: &mut [u8], n: usize, metas: &[u32], strings: &[u8], row: usize) -> usize
+pub(crate) fn put_name(
+    room: &mut [u8],
+    n: usize,
+    metas: &[u32],
+    strings: &[u8],
+    row: usize,
+) -> usize
     requires { ⌜ Rising (row + 1) (now metas) ⌝ }
     ensures { λ r. ⌜ Wrote (now (room .entry)) n (λ k. nameAt row (now (metas .entry)) (now (strings .entry)) row ++ k) (now (room .exit)) r ⌝ }
 {
