@@ -7,12 +7,14 @@ mod canonical;
 mod cells;
 #[cfg(test)]
 mod examples;
+mod full_name;
 mod meta;
 mod names;
 mod operands;
 mod tables;
 
 pub use canonical::canonical;
+pub use full_name::full_name;
 pub use tables::{Tables, ROWS, STRINGS, TRITS};
 
 use crate::{refusal, whole, Kind, Reader, Refusal, Token, LARGEST};
