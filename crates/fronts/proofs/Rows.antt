@@ -87,7 +87,7 @@ more-up (suc n) k = let e : k + suc n ≡ k + 1 + n = omega arith in rw e (ap (�
 pub up-more : (n : ℕ) → upFrom 0 n ++ (n ∷ []) ≡ upFrom 0 (n + 1)
 up-more n = let e : 0 + n ≡ n = omega arith in rw (add-one n) (rw e at (more-up n 0))
 
-length-mapped : {A B : Type 0} (f : A → B) (xs : List A) → length (map f xs) ≡ length xs
+pub length-mapped : {A B : Type 0} (f : A → B) (xs : List A) → length (map f xs) ≡ length xs
 length-mapped f [] = refl
 length-mapped f (x ∷ xs) = ap suc (length-mapped f xs)
 
