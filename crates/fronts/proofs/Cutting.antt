@@ -1,8 +1,8 @@
 -- Operands by the numbers of cells: they are longest runs again, and by rows they are what they were.
-use mathlib.Core.Path.{_≡_, refl, sym, ap, ap₂, _∙_}
+use mathlib.Core.Path.{_≡_, refl, ap, ap₂, _∙_}
 use mathlib.Core.Bool.{Bool, true, false, _&&_}
-use mathlib.Core.List.{List, [], _∷_, _++_, map}
-use Prim.Native.Nat.{ℕ, zero, suc, _+_, _-_, _<_, _≤_}
+use mathlib.Core.List.{List, [], _∷_, map}
+use Prim.Native.Nat.{ℕ, _+_, _-_, _<_}
 use native.Mathlib.Omega.{arith}
 use lib.Dec.{eqb, leb, ltb}
 use lib.ListN.{length, getD}
@@ -13,7 +13,7 @@ use Rattle.netlist.specs.Netlist.{Run, const, piece, Cell, Netlist}
 use Rattle.netlist.specs.Runs.{joins, longest, runBits, operandBits, cut}
 use Rattle.netlist.specs.Rules.{isTrit, resolves, runSound, operandSound, cellSound, widthsOf, valid}
 use Rattle.netlist.proofs.Laying.{valid-cells}
-use Rattle.laying.proofs.Melding.{behindRun, meld, cut-append, cut-falling, cut-known}
+use Rattle.laying.proofs.Melding.{meld, cut-append, cut-falling, cut-known}
 use Rattle.numbering.specs.Numbers.{numbersFrom}
 use Rattle.saying.specs.Values.{rowOf, rowRun, rowCell}
 use Rattle.fronts.specs.Fronts.{numberRun, numberCell}

@@ -1,6 +1,6 @@
 -- Names that are all different: none of them is among those before it.
 use mathlib.Core.Path.{_≡_, refl, sym, ap, _∙_}
-use mathlib.Core.Bool.{Bool, true, false, _&&_}
+use mathlib.Core.Bool.{true, false}
 use mathlib.Core.Logic.{_⊎_, inl, inr}
 use mathlib.Core.List.{List, [], _∷_, _++_, map}
 use Prim.Native.Nat.{ℕ}
@@ -50,6 +50,7 @@ module _ (kind : ℕ) where
       (λ f. rw (f, namesAs) (ap (λ (l : List (List ℕ)). d .name ∷ l) (names-at cs c cs′ e)))
       (λ f. rw (f, namesAs) (names-at cs c cs′ e))
 
+  -- cells told by numbers have the same names
   pub names-numbered : (ns : List ℕ) (cs : List Cell) → namesAs kind (map (numberCell ns) cs) ≡ namesAs kind cs
   unfolding namesAs
   names-numbered ns [] = refl

@@ -1,6 +1,6 @@
 -- Rows of numbers: rising numbers tell their rows, those of metadata and those of cells.
-use mathlib.Core.Path.{_≡_, refl, sym, ap, _∙_}
-use mathlib.Core.Bool.{Bool, true, false}
+use mathlib.Core.Path.{_≡_, refl, ap, _∙_}
+use mathlib.Core.Bool.{true}
 use mathlib.Core.List.{List, [], _∷_, _++_, map}
 use Prim.Native.Nat.{ℕ, zero, suc, _+_, _-_, _<_, _≤_}
 use native.Mathlib.Omega.{arith}
@@ -12,7 +12,7 @@ use Rattle.ground.specs.Choice.{pick}
 use Rattle.ground.specs.Lists.{total, upFrom}
 use Rattle.netlist.specs.Netlist.{Meta, Cell, Netlist}
 use Rattle.netlist.specs.Rules.{roomy}
-use Rattle.netlist.proofs.Laying.{Roomy, roomy-is}
+use Rattle.netlist.proofs.Laying.{roomy-is}
 use Rattle.numbering.specs.Numbers.{numbersFrom}
 use Rattle.saying.specs.Values.{rowFrom, rowOf}
 use Rattle.saying.specs.Rules.{Sofar}
@@ -67,7 +67,7 @@ at-up zero k i l = absurd (omega arith)
 at-up (suc n) k zero l = omega arith
 at-up (suc n) k (suc i) l = let e = at-up n (k + 1) i (omega arith) in omega arith
 
--- a row of metadata has its own number, and the next number is new
+-- a row of metadata has its own number
 pub row-up : (n i : ℕ) → i < n → rowOf (upFrom 0 n) i ≡ i + 1
 row-up n i l =
     let e : getD (upFrom 0 n) i 0 ≡ i = omega (arith, at-up n 0 i l) in
@@ -75,6 +75,7 @@ row-up n i l =
     let f : 1 + i ≡ i + 1 = omega arith in
     (rw e at r) ∙ f
 
+-- the next number of metadata is new
 pub row-new : (n : ℕ) → rowOf (upFrom 0 n) n ≡ 0
 row-new n = rising-new (up-rising n) 1
 
@@ -83,10 +84,11 @@ unfolding upFrom
 more-up zero k = let e : k + 0 ≡ k = omega arith in rw e
 more-up (suc n) k = let e : k + suc n ≡ k + 1 + n = omega arith in rw e (ap (λ (l : List ℕ). k ∷ l) (more-up n (k + 1)))
 
--- the numbers with the next one
+-- the numbers of metadata with the next one
 pub up-more : (n : ℕ) → upFrom 0 n ++ (n ∷ []) ≡ upFrom 0 (n + 1)
 up-more n = let e : 0 + n ≡ n = omega arith in rw (add-one n) (rw e at (more-up n 0))
 
+-- mapped elements are as many
 pub length-mapped : {A B : Type 0} (f : A → B) (xs : List A) → length (map f xs) ≡ length xs
 length-mapped f [] = refl
 length-mapped f (x ∷ xs) = ap suc (length-mapped f xs)
@@ -120,6 +122,7 @@ numbers-up top k (c ∷ cs) n h e =
     let s = step-least (c .width) in
     more h (numbers-up top (suc n) cs (n + step c) (omega arith) (omega arith))
 
+-- a number for each cell
 pub numbers-long : (n : ℕ) (cs : List Cell) → length (numbersFrom n cs) ≡ length cs
 unfolding numbersFrom
 numbers-long n [] = refl
@@ -128,12 +131,13 @@ numbers-long n (c ∷ cs) = ap suc (numbers-long (n + step c) cs)
 numbers-rising : (cs : List Cell) → Rising (numberPast cs) 0 (numbersFrom 0 cs)
 numbers-rising cs = numbers-up (numberPast cs) 0 cs 0 (omega arith) (omega arith)
 
--- a number tells its row, and the next number is new
+-- a number tells its row
 pub number-row : (cs : List Cell) (row : ℕ) → row < length cs → rowOf (numbersFrom 0 cs) (getD (numbersFrom 0 cs) row 0) ≡ row + 1
 number-row cs row l =
     let e : 1 + row ≡ row + 1 = omega arith in
     rising-row (numbers-rising cs) row 1 (omega (arith, numbers-long 0 cs)) ∙ e
 
+-- the next cell's number is new
 pub number-new : (cs : List Cell) → rowOf (numbersFrom 0 cs) (numberPast cs) ≡ 0
 number-new cs = rising-new (numbers-rising cs) 1
 
@@ -144,7 +148,7 @@ more-numbers n (d ∷ cs) c =
     let e : n + (step d + numberPast cs) ≡ n + step d + numberPast cs = omega arith in
     ap (λ (l : List ℕ). n ∷ l) (rw e (more-numbers (n + step d) cs c))
 
--- the numbers with the next one
+-- the numbers of cells with the next one
 pub numbers-more : (cs : List Cell) (c : Cell) → numbersFrom 0 cs ++ (numberPast cs ∷ []) ≡ numbersFrom 0 (cs ++ (c ∷ []))
 numbers-more cs c = let e : 0 + numberPast cs ≡ numberPast cs = omega arith in rw e at (more-numbers 0 cs c)
 
