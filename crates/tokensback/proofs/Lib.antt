@@ -1,1 +1,4 @@
 pub mod Standing
+pub mod Places
+pub mod Spans
+pub mod Tokens
