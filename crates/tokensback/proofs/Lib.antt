@@ -1,4 +1,5 @@
 pub mod Standing
 pub mod Places
 pub mod Spans
+pub mod Numbers
 pub mod Tokens

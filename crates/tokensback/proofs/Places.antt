@@ -18,14 +18,18 @@ use Rattle.lexis.specs.declared.Token.{Token}
 use Rattle.tokensback.proofs.Standing.{Stands, Takes}
 
 module _ (text : List ℕ) (k : ℕ) where
+  pub first-left : getD text k 0 ≡ getD (drop k text) 0 0
+  first-left = rw (getD-drop, add-zero)
+
   -- the byte at the place, and the rest past it
   pub byte-here : {s : List ℕ} (b : ℕ) → drop k text ≡ b ∷ s → getD text k 0 ≡ b
-  byte-here b h =
-      let e : getD (drop k text) 0 0 ≡ getD text k 0 = rw (getD-drop, add-zero) in
-      sym e ∙ ap (λ (l : List ℕ). getD l 0 0) h
+  byte-here b h = first-left ∙ ap (λ (l : List ℕ). getD l 0 0) h
 
   pub past-byte : {b : ℕ} {s : List ℕ} → drop k text ≡ b ∷ s → drop (k + 1) text ≡ s
   past-byte h = sym (drop-drop 1 k text) ∙ ap (λ (l : List ℕ). drop 1 l) h
+
+  pub past-two : {b c : ℕ} {s : List ℕ} → drop k text ≡ b ∷ c ∷ s → drop (k + 2) text ≡ s
+  past-two h = sym (drop-drop 2 k text) ∙ ap (λ (l : List ℕ). drop 2 l) h
 
   -- behind white space and behind a special character a token may begin
   pub stands-behind : {s : List ℕ} (b : ℕ) → drop k text ≡ b ∷ s → within 1 2 (classOf b) || isSpecial b ≡ true → Stands text (k + 1) s

@@ -1,28 +1,30 @@
 -- THE TOKENS BACK: each printed token, where reading stands before it, is taken as what was printed.
-use Prim.Native.Nat.{ℕ, suc, _+_, _≤_, _<_}
+use Prim.Native.Nat.{ℕ, suc, _+_, _-_, _≤_, _<_}
 use mathlib.Core.Path.{_≡_, refl, _∙_}
 use mathlib.Core.Bool.{Bool, true, false, not}
 use mathlib.Core.List.{List, [], _∷_, _++_, map}
 use native.Mathlib.Omega.{arith}
-use lib.Dec.{eqb}
+use lib.Dec.{eqb, leb}
 use lib.ListN.{drop, take, length}
 use lib.Seq.{take-append-seam}
-use borrow.Author.Tests.{eqb-true}
+use borrow.Author.Tests.{eqb-true, leb-true, leb-false}
 use Rattle.ground.specs.Lists.{every}
 use Rattle.ground.specs.Regions.{part}
-use Rattle.ground.proofs.Bools.{every-first}
+use Rattle.ground.proofs.Bools.{bool-cases, every-first}
 use Rattle.ground.proofs.Regions.{part-next}
 use Rattle.lexis.specs.Bytes.{classFrom, classOf, isSpecial, isLetter, tritOf}
 use Rattle.lexis.specs.Pieces.{insideEnd, decoded}
-use Rattle.lexis.specs.Tokens.{tokenFrom, insideAt, took, plain, token, written, lineEnd, textEnd, mark, word, constant, number, meta, io, cell, string}
+use Rattle.lexis.specs.Tokens.{metaOf, longOf, tokenFrom, insideAt, took, plain, token, written, lineEnd, textEnd, mark, word, constant, number, meta, io, cell, string}
 use Rattle.lexis.specs.declared.Token.{Token}
 use Rattle.lexis.proofs.Bytes.{within-true}
 use Rattle.netlist.specs.Rules.{isByte, isTrit}
+use Rattle.writing.specs.Decimal.{decimal, signed}
 use Rattle.writing.specs.Words as words
 use Rattle.operands.specs.Operands as operands
 use Rattle.tokensback.proofs.Standing.{Stands, Takes, Marks, Feeds, ends}
-use Rattle.tokensback.proofs.Places.{stands-behind, space-passed, outside-here, inside-here, begun, mark-from}
+use Rattle.tokensback.proofs.Places.{byte-here, past-byte, past-two, stands-behind, space-passed, outside-here, inside-here, begun, mark-from}
 use Rattle.tokensback.proofs.Spans.{span-here, letter-fails, word-long}
+use Rattle.tokensback.proofs.Numbers.{numeral-back, digits-end, single-took, positive-long, negative-long}
 
 module _ (text : List ℕ) (k : ℕ) where
   -- behind a space a token may begin
@@ -62,6 +64,29 @@ module _ (text : List ℕ) (k : ℕ) where
   pub end-back : drop k text ≡ [] → insideAt text k ≡ took (plain textEnd k 0 0 0) k
   unfolding insideAt insideEnd tokenFrom
   end-back h = rw (h, h)
+
+  -- `!` and a number
+  pub meta-back : {s : List ℕ} (n : ℕ) → n ≤ 65535 → ends s ≡ true → Stands text k (33 ∷ words.number n s) → Takes text k (plain meta k n 0 0) s
+  unfolding words.number longOf metaOf classOf classFrom
+  meta-back {s} n l e h =
+      let i = numeral-back 65535 text (k + 1) n s l (omega arith) (digits-end s e) (past-byte text k (h .rest)) in
+      begun text k 33 h (omega arith) (omega arith) (i .end) (single-took meta k (k + 1) (λ v. v) i) (i .rest)
+
+  -- `#` and a number with its sign
+  pub hash-back : {s : List ℕ} (n : ℕ) → n < 4294967296 → ends s ≡ true → Stands text k (words.hash n s) → Takes text k (plain number k n 0 0) s
+  unfolding words.hash signed longOf classOf classFrom
+  hash-back {s} n l e h = bool-cases (leb 2147483648 n)
+      (λ p.
+      let g = leb-true 2147483648 n p in
+      let r : drop k text ≡ 35 ∷ 45 ∷ (decimal (4294967296 - n) ++ s) = rw p at (h .rest) in
+      let i = numeral-back 2147483648 text (k + 2) (4294967296 - n) s (omega arith) (omega arith) (digits-end s e) (past-two text k r) in
+      let v : 4294967296 - (4294967296 - n) ≡ n = omega arith in
+      begun text k 35 h (omega arith) (omega arith) (i .end) (negative-long text k (4294967296 - n) s (omega arith) (byte-here text (k + 1) 45 (past-byte text k r)) i ∙ rw v) (i .rest))
+      (λ p.
+      let g = leb-false 2147483648 n p in
+      let r : drop (k + 1) text ≡ decimal n ++ s = rw p at (past-byte text k (h .rest)) in
+      let i = numeral-back 2147483647 text (k + 1) n s (omega arith) (omega arith) (digits-end s e) r in
+      begun text k 35 h (omega arith) (omega arith) (i .end) (positive-long text k n s i) (i .rest))
 
   -- a word of letters
   pub word-back : {s : List ℕ} (ls : List ℕ) → 1 ≤ length ls → every isLetter ls ≡ true → ends s ≡ true
