@@ -2,4 +2,6 @@ pub mod Standing
 pub mod Places
 pub mod Spans
 pub mod Numbers
+pub mod Strings
+pub mod Parts
 pub mod Tokens

@@ -1,6 +1,6 @@
 -- THE TOKENS BACK: each printed token, where reading stands before it, is taken as what was printed.
 use Prim.Native.Nat.{ℕ, suc, _+_, _-_, _≤_, _<_}
-use mathlib.Core.Path.{_≡_, refl, _∙_}
+use mathlib.Core.Path.{_≡_, refl, ap, _∙_}
 use mathlib.Core.Bool.{Bool, true, false, not}
 use mathlib.Core.List.{List, [], _∷_, _++_, map}
 use native.Mathlib.Omega.{arith}
@@ -13,7 +13,7 @@ use Rattle.ground.specs.Regions.{part}
 use Rattle.ground.proofs.Bools.{bool-cases, every-first}
 use Rattle.ground.proofs.Regions.{part-next}
 use Rattle.lexis.specs.Bytes.{classFrom, classOf, isSpecial, isLetter, tritOf}
-use Rattle.lexis.specs.Pieces.{insideEnd, decoded}
+use Rattle.lexis.specs.Pieces.{insideEnd, bytesIn, decoded, quotedAt}
 use Rattle.lexis.specs.Tokens.{metaOf, longOf, tokenFrom, insideAt, took, plain, token, written, lineEnd, textEnd, mark, word, constant, number, meta, io, cell, string}
 use Rattle.lexis.specs.declared.Token.{Token}
 use Rattle.lexis.proofs.Bytes.{within-true}
@@ -25,6 +25,8 @@ use Rattle.tokensback.proofs.Standing.{Stands, Takes, Marks, Feeds, end
 use Rattle.tokensback.proofs.Places.{byte-here, past-byte, past-two, stands-behind, space-passed, outside-here, inside-here, begun, mark-from}
 use Rattle.tokensback.proofs.Spans.{span-here, letter-fails, word-long}
 use Rattle.tokensback.proofs.Numbers.{numeral-back, digits-end, single-took, positive-long, negative-long}
+use Rattle.tokensback.proofs.Strings.{string-read}
+use Rattle.tokensback.proofs.Parts.{io-long}
 
 module _ (text : List ℕ) (k : ℕ) where
   -- behind a space a token may begin
@@ -87,6 +89,27 @@ module _ (text : List ℕ) (k : ℕ) where
       let r : drop (k + 1) text ≡ decimal n ++ s = rw p at (past-byte text k (h .rest)) in
       let i = numeral-back 2147483647 text (k + 1) n s (omega arith) (omega arith) (digits-end s e) r in
       begun text k 35 h (omega arith) (omega arith) (i .end) (positive-long text k n s i) (i .rest))
+
+  -- a string, by its size
+  pub string-back : {s : List ℕ} (bs : List ℕ) → every isByte bs ≡ true → Stands text k (words.quoted bs s) → Takes text k (plain string k 0 (k + 1) (length bs)) s
+  unfolding words.quoted longOf quotedAt classOf classFrom
+  string-back {s} bs p h =
+      let r = string-read text (k + 1) bs s p (past-byte text k (h .rest)) in
+      begun text k 34 h (omega arith) (omega arith) (r .end) (rw (r .is)) (r .rest)
+
+  -- and by its bytes
+  pub string-decoded : (bs s : List ℕ) → every isByte bs ≡ true → drop k text ≡ words.quoted bs s → decoded text (k + 1) ≡ bs
+  unfolding words.quoted
+  string-decoded bs s p h = ap bytesIn (string-read text (k + 1) bs s p (past-byte text k h) .is)
+
+  -- the declaration of an input or output: `&"name":w`
+  pub io-back : {s : List ℕ} (bs : List ℕ) (w : ℕ) → every isByte bs ≡ true → w ≤ 65535 → ends s ≡ true
+      → Stands text k (38 ∷ words.quoted bs (58 ∷ words.number w s)) → Takes text k (token io k 0 (k + 2) (length bs) 2 0 w 0) s
+  unfolding words.quoted words.number longOf classOf classFrom
+  io-back {s} bs w p l e h =
+      let t = string-read text (k + 2) bs (58 ∷ (decimal w ++ s)) p (past-two text k (h .rest)) in
+      let i = numeral-back 65535 text (t .end + 1) w s l (omega arith) (digits-end s e) (past-byte text (t .end) (t .rest)) in
+      begun text k 38 h (omega arith) (omega arith) (i .end) (io-long k (byte-here text (k + 1) 34 (past-byte text k (h .rest))) t i) (i .rest)
 
   -- a word of letters
   pub word-back : {s : List ℕ} (ls : List ℕ) → 1 ≤ length ls → every isLetter ls ≡ true → ends s ≡ true
