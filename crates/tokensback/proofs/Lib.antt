@@ -4,4 +4,5 @@ pub mod Spans
 pub mod Numbers
 pub mod Strings
 pub mod Parts
+pub mod Constants
 pub mod Tokens

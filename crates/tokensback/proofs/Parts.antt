@@ -11,7 +11,9 @@ use Rattle.lexis.specs.Pieces.{numeralAt, noSuffix, suffixAt, quotedAt, stringF
 use Rattle.lexis.specs.Tokens.{took, token, io, ioOf}
 use Rattle.lexis.specs.declared.pieces.Numeral.{Numeral}
 use Rattle.lexis.specs.declared.pieces.Suffix.{Suffix}
-use Rattle.tokensback.proofs.Places.{byte-here, past-byte}
+use Rattle.tokensback.proofs.Standing.{ends}
+use Rattle.tokensback.proofs.Places.{first-left, byte-here}
+use Rattle.tokensback.proofs.Spans.{Fails, break-fails}
 use Rattle.tokensback.proofs.Numbers.{Numbered}
 use Rattle.tokensback.proofs.Strings.{Strung}
 
@@ -19,10 +21,24 @@ use Rattle.tokensback.proofs.Strings.{Strung}
 abbrev pub part : ℕ → ℕ → Suffix
 part n end = record { given = true; broken = false; large = false; value = n; end = end }
 
+-- `+`, `:` and `*` end no number, word or constant
+pub plus-fails : Fails (λ b. eqb b 43)
+plus-fails = record { space = refl; feed = refl; round = refl; equals = refl; square = refl; curly = refl }
+
+pub colon-fails : Fails (λ b. eqb b 58)
+colon-fails = record { space = refl; feed = refl; round = refl; equals = refl; square = refl; curly = refl }
+
+pub star-fails : Fails (λ b. eqb b 42)
+star-fails = record { space = refl; feed = refl; round = refl; equals = refl; square = refl; curly = refl }
+
 module _ (text : List ℕ) (sign k : ℕ) where
   pub no-part : eqb (getD text k 0) sign ≡ false → suffixAt text sign k ≡ noSuffix k
   unfolding suffixAt
   no-part e = rw e
+
+  -- what ends an identifier begins no part
+  pub ended-part : {s : List ℕ} → Fails (λ b. eqb b sign) → ends s ≡ true → drop k text ≡ s → suffixAt text sign k ≡ noSuffix k
+  ended-part {s} f e h = no-part (rw (first-left text k, h) (break-fails (λ b. eqb b sign) (getD s 0 0) f e))
 
   pub part-here : {n : ℕ} {s : List ℕ} → getD text k 0 ≡ sign → (i : Numbered 65535 text (k + 1) n s) → suffixAt text sign k ≡ part n (i .end)
   unfolding suffixAt

@@ -35,7 +35,7 @@ hex-tested : (d : ℕ) → d < 16 → T (hexTest d)
 unfolding classOf classFrom zeros
 hex-tested d h = at (λ k x. hexTest k) (zeros 16) 0 tt d h
 
-told : (a : Bool) → T a → a ≡ true
+pub told : (a : Bool) → T a → a ≡ true
 told true t = refl
 told false t = absurd t
 

@@ -5,28 +5,30 @@ use mathlib.Core.Bool.{Bool, true, false, not}
 use mathlib.Core.List.{List, [], _∷_, _++_, map}
 use native.Mathlib.Omega.{arith}
 use lib.Dec.{eqb, leb}
-use lib.ListN.{drop, take, length}
+use lib.ListN.{drop, take, length, length-map}
 use lib.Seq.{take-append-seam}
 use borrow.Author.Tests.{eqb-true, leb-true, leb-false}
 use Rattle.ground.specs.Lists.{every}
 use Rattle.ground.specs.Regions.{part}
 use Rattle.ground.proofs.Bools.{bool-cases, every-first}
-use Rattle.ground.proofs.Regions.{part-next}
-use Rattle.lexis.specs.Bytes.{classFrom, classOf, isSpecial, isLetter, tritOf}
-use Rattle.lexis.specs.Pieces.{insideEnd, bytesIn, decoded, quotedAt}
+use Rattle.ground.proofs.Regions.{part-front, part-next}
+use Rattle.lexis.specs.Bytes.{classFrom, classOf, isSpecial, isConstant, isLetter, tritOf}
+use Rattle.lexis.specs.Pieces.{spanEnd, insideEnd, bytesIn, decoded, quotedAt}
 use Rattle.lexis.specs.Tokens.{metaOf, longOf, tokenFrom, insideAt, took, plain, token, written, lineEnd, textEnd, mark, word, constant, number, meta, io, cell, string}
 use Rattle.lexis.specs.declared.Token.{Token}
 use Rattle.lexis.proofs.Bytes.{within-true}
 use Rattle.netlist.specs.Rules.{isByte, isTrit}
 use Rattle.writing.specs.Decimal.{decimal, signed}
 use Rattle.writing.specs.Words as words
+use Rattle.writing.specs.Words.{tritChar}
 use Rattle.operands.specs.Operands as operands
 use Rattle.tokensback.proofs.Standing.{Stands, Takes, Marks, Feeds, ends}
 use Rattle.tokensback.proofs.Places.{byte-here, past-byte, past-two, stands-behind, space-passed, outside-here, inside-here, begun, mark-from}
 use Rattle.tokensback.proofs.Spans.{span-here, letter-fails, word-long}
 use Rattle.tokensback.proofs.Numbers.{numeral-back, digits-end, single-took, positive-long, negative-long}
 use Rattle.tokensback.proofs.Strings.{string-read}
-use Rattle.tokensback.proofs.Parts.{io-long}
+use Rattle.tokensback.proofs.Parts.{star-fails, ended-part, io-long}
+use Rattle.tokensback.proofs.Constants.{char-constant, chars-constant, chars-meant, trits-chars, constant-fails, constant-long}
 
 module _ (text : List ℕ) (k : ℕ) where
   -- behind a space a token may begin
@@ -110,6 +112,28 @@ module _ (text : List ℕ) (k : ℕ) where
       let t = string-read text (k + 2) bs (58 ∷ (decimal w ++ s)) p (past-two text k (h .rest)) in
       let i = numeral-back 65535 text (t .end + 1) w s l (omega arith) (digits-end s e) (past-byte text (t .end) (t .rest)) in
       begun text k 38 h (omega arith) (omega arith) (i .end) (io-long k (byte-here text (k + 1) 34 (past-byte text k (h .rest))) t i) (i .rest)
+
+  -- a constant, by its characters
+  pub constant-back : {s : List ℕ} (ts : List ℕ) → 1 ≤ length ts → every isTrit ts ≡ true → ends s ≡ true
+      → Stands text k (words.trits ts s) → Takes text k (token constant k 0 k (length ts) 0 0 0 0) s
+  unfolding words.trits
+  constant-back [] l p e h = absurd (omega arith)
+  constant-back {s} (t ∷ ts) l p e h =
+      let n = suc (length ts) in
+      let c = char-constant t (every-first isTrit t ts p .0) in
+      let r = within-true 5 6 (classOf (tritChar t)) c in
+      let m : length (map tritChar (t ∷ ts)) ≡ n = length-map (t ∷ ts) tritChar in
+      let d = h .rest ∙ trits-chars (t ∷ ts) s in
+      let g : spanEnd isConstant (drop k text) k ≡ k + n = rw m at (span-here isConstant text k (map tritChar (t ∷ ts)) s constant-fails (chars-constant (t ∷ ts) p) e d) in
+      let q : drop (k + n) text ≡ s = rw m at (part-next text k (map tritChar (t ∷ ts)) s d) in
+      begun text k (tritChar t) h (omega arith) (omega arith) (k + n) (constant-long text k (tritChar t) n c g (ended-part text 42 (k + n) star-fails e q)) q
+
+  -- and by its trits
+  pub constant-meant : (ts s : List ℕ) → every isTrit ts ≡ true → drop k text ≡ words.trits ts s → map tritOf (part k (length ts) text) ≡ ts
+  constant-meant ts s p h =
+      let m : length (map tritChar ts) ≡ length ts = length-map ts tritChar in
+      let d : part k (length ts) text ≡ map tritChar ts = rw m at (part-front text k (map tritChar ts) s (h ∙ trits-chars ts s)) in
+      rw d (chars-meant ts p)
 
   -- a word of letters
   pub word-back : {s : List ℕ} (ls : List ℕ) → 1 ≤ length ls → every isLetter ls ≡ true → ends s ≡ true
