@@ -5,4 +5,5 @@ pub mod Numbers
 pub mod Strings
 pub mod Parts
 pub mod Constants
+pub mod Cells
 pub mod Tokens

@@ -117,7 +117,7 @@ numeral-back limit text k n s l m d h =
       rest = rw (← digits-length (places n) n) (part-next text k (decimal n) s h);
     }
 
-digit-fails : Fails isDigit
+pub digit-fails : Fails isDigit
 unfolding classOf classFrom
 digit-fails = record { space = refl; feed = refl; round = refl; equals = refl; square = refl; curly = refl }
 

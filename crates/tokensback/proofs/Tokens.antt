@@ -29,6 +29,7 @@ use Rattle.tokensback.proofs.Numbers.{numeral-back, digits-end, single-
 use Rattle.tokensback.proofs.Strings.{string-read}
 use Rattle.tokensback.proofs.Parts.{star-fails, ended-part, io-long}
 use Rattle.tokensback.proofs.Constants.{char-constant, chars-constant, chars-meant, trits-chars, constant-fails, constant-long}
+use Rattle.tokensback.proofs.Cells.{unparted, parted, unopened-number, width-parted, width-meant, offset-first, offset-parted, offset-unopened, cell-long}
 
 module _ (text : List ℕ) (k : ℕ) where
   -- behind a space a token may begin
@@ -134,6 +135,29 @@ module _ (text : List ℕ) (k : ℕ) where
       let m : length (map tritChar ts) ≡ length ts = length-map ts tritChar in
       let d : part k (length ts) text ≡ map tritChar ts = rw m at (part-front text k (map tritChar ts) s (h ∙ trits-chars ts s)) in
       rw d (chars-meant ts p)
+
+  -- a cell's declaration: `%n:w`
+  pub declared-back : {s : List ℕ} (n w : ℕ) → n ≤ 65535 → w ≤ 65535 → ends s ≡ true
+      → Stands text k (37 ∷ words.number n (58 ∷ words.number w s)) → Takes text k (token cell k n 0 0 2 0 w 0) s
+  unfolding words.number longOf classOf classFrom
+  declared-back {s} n w l m e h =
+      let r : List ℕ = 58 ∷ (decimal w ++ s) in
+      let i = numeral-back 65535 text (k + 1) n r l (omega arith) refl (past-byte text k (h .rest)) in
+      let o = unparted text 43 (i .end) refl (i .rest) in
+      let q = parted text 58 (o .end) w m (digits-end s e) (o .rest) in
+      begun text k 37 h (omega arith) (omega arith) (q .end) (cell-long k i o q (unopened-number text (i .end) s w m (digits-end s e) (i .rest)) e) (q .rest)
+
+  -- a piece: `+o` unless it is whole, `:w` unless it is 1 wide
+  pub piece-back : {s : List ℕ} (n o w : ℕ) (whole : Bool) → (whole ≡ true → o ≡ 0) → n ≤ 65535 → o ≤ 65535 → w ≤ 65535 → ends s ≡ true
+      → Stands text k (37 ∷ words.number n (operands.offset whole o (operands.width w s)))
+      → Takes text k (token cell k n 0 0 (written (not whole) (not (eqb w 1)) false) o w 0) s
+  unfolding words.number longOf classOf classFrom
+  piece-back {s} n o w whole z a b c e h =
+      let r = operands.offset whole o (operands.width w s) in
+      let i = numeral-back 65535 text (k + 1) n r a (omega arith) (offset-first whole o w s e) (past-byte text k (h .rest)) in
+      let p = offset-parted whole o w s e text (i .end) (i .rest) z b in
+      let q = width-parted w s e text (p .end) c (p .rest) in
+      begun text k 37 h (omega arith) (omega arith) (q .end) (cell-long k i p q (offset-unopened whole o w s e text (i .end) (i .rest) c) e ∙ rw (width-meant w)) (q .rest)
 
   -- a word of letters
   pub word-back : {s : List ℕ} (ls : List ℕ) → 1 ≤ length ls → every isLetter ls ≡ true → ends s ≡ true
