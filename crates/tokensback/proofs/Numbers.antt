@@ -1,11 +1,11 @@
 -- Numbers back: the digits of a printed number, read again, give the number and end behind it.
 use Prim.Native.Nat.{ℕ, zero, suc, _+_, _-_, _*_, _/_, _%_, _^_, _<_, _≤_}
 use mathlib.Core.Path.{_≡_, refl, sym, ap, ap₂, _∙_}
-use mathlib.Core.Bool.{Bool, true, false}
+use mathlib.Core.Bool.{true, false}
 use mathlib.Core.List.{List, [], _∷_, _++_}
 use native.Mathlib.Omega.{arith}
 use native.Mathlib.Nat.{div-add-mod', pow-le-pow-right}
-use lib.Dec.{eqb, leb, ltb}
+use lib.Dec.{leb}
 use lib.ListN.{drop, getD, length}
 use borrow.Author.Tests.{le-leb, leb-false, lt-ltb, le-ltb, ne-eqb}
 use Rattle.ground.specs.Choice.{pick}
@@ -16,11 +16,12 @@ use Rattle.lexis.specs.Bytes.{classFrom, classOf, isDigit}
 use Rattle.lexis.specs.Pieces.{Digits, digitsFrom, numeralAt}
 use Rattle.lexis.specs.Tokens.{took, plain, number, single, signedOf, numberOf}
 use Rattle.lexis.proofs.Bytes.{digit-byte}
-use Rattle.writing.specs.Decimal.{digits, places, decimal, SplitAt}
+use Rattle.writing.specs.Decimal.{digits, places, decimal}
+use Rattle.writing.specs.Words as words
 use Rattle.writing.proofs.Digits.{split-law}
 use Rattle.tokensback.proofs.Standing.{ends}
 use Rattle.tokensback.proofs.Places.{first-left}
-use Rattle.tokensback.proofs.Spans.{Fails, break-fails}
+use Rattle.tokensback.proofs.Spans.{Fails, end-fails}
 
 -- the characters of digits are digits
 digit-char : (d : ℕ) → d < 10 → isDigit (48 + d) ≡ true
@@ -100,6 +101,7 @@ pub record Numbered (limit : ℕ) (text : List ℕ) (k n : ℕ) (s : List ℕ) :
   pub high : getD text k 0 ≤ 57
   pub rest : drop end text ≡ s
 
+-- a decimal is read as its number
 pub numeral-back :
     (limit : ℕ) (text : List ℕ) (k n : ℕ) (s : List ℕ) → n ≤ limit → n < 10000000000 → isDigit (getD s 0 0) ≡ false
     → drop k text ≡ decimal n ++ s → Numbered limit text k n s
@@ -117,25 +119,32 @@ numeral-back limit text k n s l m d h =
       rest = rw (← digits-length (places n) n) (part-next text k (decimal n) s h);
     }
 
+-- the same of an index, an offset or a width
+pub index-back : (text : List ℕ) (k n : ℕ) (s : List ℕ) → n ≤ 65535 → isDigit (getD s 0 0) ≡ false → drop k text ≡ words.number n s → Numbered 65535 text k n s
+unfolding words.number
+index-back text k n s l d h = numeral-back 65535 text k n s l (omega arith) d h
+
+-- no digit ends a number
 pub digit-fails : Fails isDigit
 unfolding classOf classFrom
-digit-fails = record { space = refl; feed = refl; round = refl; equals = refl; square = refl; curly = refl }
+digit-fails = refl
 
--- what ends a number is no digit
+-- what stands behind a number is no digit
 pub digits-end : (s : List ℕ) → ends s ≡ true → isDigit (getD s 0 0) ≡ false
-digits-end s e = break-fails isDigit (getD s 0 0) digit-fails e
+digits-end s e = end-fails isDigit s digit-fails e
 
 -- a token that is one numeral
 pub single-took : {limit : ℕ} {text : List ℕ} {n : ℕ} {s : List ℕ} (sort k from : ℕ) (value : ℕ → ℕ) (i : Numbered limit text from n s)
     → (let d = numeralAt limit text from in single sort k from d (value (d .value)) (d .end)) ≡ took (plain sort k (value n) 0 0) (i .end)
 single-took sort k from value i = rw (i .is, ne-eqb (i .end) from (λ e. let h = i .far in omega arith))
 
--- the numbers of 32 bits, by their sign
+-- a number of 32 bits without a sign
 pub positive-long : (text : List ℕ) (k n : ℕ) (s : List ℕ) (i : Numbered 2147483647 text (k + 1) n s) → numberOf text k ≡ took (plain number k n 0 0) (i .end)
 unfolding numberOf
 positive-long text k n s i =
     rw (ne-eqb (getD text (k + 1) 0) 45 (λ e. let h = i .low in omega arith)) (single-took number k (k + 1) (signedOf false) i)
 
+-- and one behind `-`
 pub negative-long : (text : List ℕ) (k n : ℕ) (s : List ℕ) → 0 < n → getD text (k + 1) 0 ≡ 45 → (i : Numbered 2147483648 text (k + 2) n s) → numberOf text k ≡ took (plain number k (4294967296 - n) 0 0) (i .end)
 unfolding numberOf
 negative-long text k n s l e i = rw e (single-took number k (k + 2) (signedOf true) i ∙ rw (lt-ltb 0 n l))

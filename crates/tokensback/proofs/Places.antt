@@ -18,16 +18,19 @@ use Rattle.lexis.specs.declared.Token.{Token}
 use Rattle.tokensback.proofs.Standing.{Stands, Takes}
 
 module _ (text : List ℕ) (k : ℕ) where
+  -- the byte at a place is the first of what is left there
   pub first-left : getD text k 0 ≡ getD (drop k text) 0 0
   first-left = rw (getD-drop, add-zero)
 
-  -- the byte at the place, and the rest past it
+  -- the byte at the place
   pub byte-here : {s : List ℕ} (b : ℕ) → drop k text ≡ b ∷ s → getD text k 0 ≡ b
   byte-here b h = first-left ∙ ap (λ (l : List ℕ). getD l 0 0) h
 
+  -- what is left past it
   pub past-byte : {b : ℕ} {s : List ℕ} → drop k text ≡ b ∷ s → drop (k + 1) text ≡ s
   past-byte h = sym (drop-drop 1 k text) ∙ ap (λ (l : List ℕ). drop 1 l) h
 
+  -- and past the next
   pub past-two : {b c : ℕ} {s : List ℕ} → drop k text ≡ b ∷ c ∷ s → drop (k + 2) text ≡ s
   past-two h = sym (drop-drop 2 k text) ∙ ap (λ (l : List ℕ). drop 2 l) h
 
@@ -37,11 +40,11 @@ module _ (text : List ℕ) (k : ℕ) where
   stands-behind b h e = record { rest = past-byte h; free = rw (add-one, byte-here b h, e) }
 
   -- a byte that fails the test ends a span, and one that passes it goes on
-  pub span-stays : {b : ℕ} {s : List ℕ} (p : ℕ → Bool) → drop k text ≡ b ∷ s → p b ≡ false → spanEnd p (drop k text) k ≡ k
+  span-stays : {b : ℕ} {s : List ℕ} (p : ℕ → Bool) → drop k text ≡ b ∷ s → p b ≡ false → spanEnd p (drop k text) k ≡ k
   unfolding spanEnd
   span-stays p h e = rw (h, e, spanEnd)
 
-  pub span-goes : {b : ℕ} {s : List ℕ} (p : ℕ → Bool) → drop k text ≡ b ∷ s → p b ≡ true → spanEnd p (drop k text) k ≡ spanEnd p (drop (k + 1) text) (k + 1)
+  span-goes : {b : ℕ} {s : List ℕ} (p : ℕ → Bool) → drop k text ≡ b ∷ s → p b ≡ true → spanEnd p (drop k text) k ≡ spanEnd p (drop (k + 1) text) (k + 1)
   unfolding spanEnd
   span-goes p h e = rw (past-byte h, h, e, spanEnd)
 
@@ -59,6 +62,7 @@ module _ (text : List ℕ) (k : ℕ) where
   unfolding tokenAt
   outside-here b h e = rw (span-stays isWhite h e, h)
 
+  -- nor one, between brackets, that ends no line and begins no comment
   pub inside-here : {s : List ℕ} (b : ℕ) → drop k text ≡ b ∷ s → within 1 3 (classOf b) ≡ false → eqb (classOf b) 14 ≡ false → insideAt text k ≡ tokenFrom text k (b ∷ s)
   unfolding insideAt
   inside-here b h e f = rw (inside-stays b h e f, h)
@@ -67,27 +71,24 @@ module _ (text : List ℕ) (k : ℕ) where
 outside-range : (a e c : ℕ) → e < c → within a e c ≡ false
 outside-range a e c h = bool-cases (leb a c) (λ p. rw (p, lt-leb c e h)) (λ p. rw p)
 
--- a byte of another class than one is another byte
-pub other-byte : (b d : ℕ) → (classOf b ≡ classOf d → ⊥) → eqb b d ≡ false
-other-byte b d f = ne-eqb b d (λ e. f (ap classOf e))
+-- a byte of another class than a carriage return's, and than `;`'s
+not-return : (b : ℕ) → (classOf b ≡ 3 → ⊥) → eqb b 13 ≡ false
+unfolding classOf classFrom
+not-return b f = ne-eqb b 13 (λ e. f (ap classOf e))
 
--- the byte b begins a token that is no line end and no special character
+not-comment : (b : ℕ) → (classOf b ≡ 14 → ⊥) → eqb b 59 ≡ false
+unfolding classOf classFrom
+not-comment b f = ne-eqb b 59 (λ e. f (ap classOf e))
+
 module _ (text : List ℕ) (k b : ℕ) {s : List ℕ} (h : Stands text k (b ∷ s)) (l : 4 ≤ classOf b) (m : classOf b ≤ 13) where
-  not-return : eqb b 13 ≡ false
-  unfolding classOf classFrom
-  not-return = other-byte b 13 (λ e. let z : classOf b ≡ 3 = e in omega arith)
-
-  not-comment : eqb b 59 ≡ false
-  unfolding classOf classFrom
-  not-comment = other-byte b 59 (λ e. let z : classOf b ≡ 14 = e in omega arith)
-
   from-here : tokenFrom text k (b ∷ s) ≡ longOf text k b
   unfolding tokenFrom
   from-here =
       let f : eqb (classOf b) 2 ≡ false = ne-eqb (classOf b) 2 (λ e. omega arith) in
       let j : eqb (classOf b) 15 ≡ false = ne-eqb (classOf b) 15 (λ e. omega arith) in
-      rw (f, not-return, not-comment, j, h .free)
+      rw (f, not-return b (λ e. omega arith), not-comment b (λ e. omega arith), j, h .free)
 
+  -- the token, no line end and no special character, that the byte b begins
   pub begun : {r : List ℕ} {t : Token} (e : ℕ) → longOf text k b ≡ took t e → drop e text ≡ r → Takes text k t r
   begun e p q = record {
     end = e;
@@ -98,9 +99,7 @@ module _ (text : List ℕ) (k b : ℕ) {s : List ℕ} (h : Stands text k (b ∷ 
 
 -- a special character is a mark
 pub mark-from : (text : List ℕ) (k b : ℕ) (s : List ℕ) → isSpecial b ≡ true → tokenFrom text k (b ∷ s) ≡ took (plain mark k b 0 0) (k + 1)
-unfolding tokenFrom classOf classFrom
+unfolding tokenFrom
 mark-from text k b s p =
     let c : classOf b ≡ 15 = eqb-true (classOf b) 15 p in
-    let f : eqb b 13 ≡ false = other-byte b 13 (λ e. let z : classOf b ≡ 3 = e in omega arith) in
-    let g : eqb b 59 ≡ false = other-byte b 59 (λ e. let z : classOf b ≡ 14 = e in omega arith) in
-    rw (c, f, g)
+    rw (c, not-return b (λ e. omega arith), not-comment b (λ e. omega arith))

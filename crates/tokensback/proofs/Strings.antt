@@ -1,12 +1,12 @@
 -- Strings back: the bytes of a printed string, raw or escaped, read again.
-use Prim.Native.Nat.{ℕ, zero, suc, _+_, _*_, _/_, _%_, _<_, _≤_}
-use mathlib.Core.Path.{_≡_, refl, sym, ap, _∙_}
+use Prim.Native.Nat.{ℕ, _+_, _*_, _/_, _%_, _<_}
+use mathlib.Core.Path.{_≡_, refl, ap, _∙_}
 use mathlib.Core.Bool.{Bool, true, false, not, _&&_, _||_}
-use mathlib.Core.List.{List, [], _∷_, _++_}
+use mathlib.Core.List.{List, [], _∷_}
 use native.Mathlib.Omega.{arith}
 use native.Mathlib.Nat.{mod-lt, div-add-mod', div-lt-iff-lt-mul}
-use lib.Dec.{T, eqb, ltb, eqb→eq}
-use lib.ListN.{drop, length}
+use lib.Dec.{T, eqb, eqb→eq}
+use lib.ListN.{drop}
 use borrow.Author.Tests.{ltb-true, not-true}
 use Rattle.ground.specs.Lists.{every}
 use Rattle.ground.specs.Regions.{zeros}
@@ -14,9 +14,9 @@ use Rattle.ground.proofs.Bools.{bool-cases, and-first, and-second, every-first}
 use Rattle.ground.proofs.Regions.{part-next}
 use Rattle.ground.proofs.Tables.{at}
 use Rattle.lexis.specs.Bytes.{classFrom, classOf, isHex, isRaw, hexOf}
-use Rattle.lexis.specs.Pieces.{Str, whole, prefixed, stringFrom, stringAt}
+use Rattle.lexis.specs.Pieces.{whole, prefixed, stringFrom, stringAt}
 use Rattle.netlist.specs.Rules.{isByte}
-use Rattle.writing.specs.Words.{rawByte, hexDigit, escaped, quoted}
+use Rattle.writing.specs.Words.{rawByte, hexDigit, escaped}
 use Rattle.tokensback.proofs.Places.{past-byte}
 
 -- a byte that is printed raw is read raw
@@ -35,6 +35,7 @@ hex-tested : (d : ℕ) → d < 16 → T (hexTest d)
 unfolding classOf classFrom zeros
 hex-tested d h = at (λ k x. hexTest k) (zeros 16) 0 tt d h
 
+-- a computed test
 pub told : (a : Bool) → T a → a ≡ true
 told true t = refl
 told false t = absurd t
@@ -75,6 +76,7 @@ escape-on b s k h =
 more : {text : List ℕ} {j k b : ℕ} {bs s : List ℕ} → stringAt text k ≡ prefixed b (stringAt text j) → Strung text j bs s → Strung text k (b ∷ bs) s
 more {b = b} e r = record { end = r .end; is = e ∙ ap (prefixed b) (r .is); rest = r .rest }
 
+-- a string is read as its bytes
 pub string-read : (text : List ℕ) (k : ℕ) (bs s : List ℕ) → every isByte bs ≡ true → drop k text ≡ escaped bs (34 ∷ s) → Strung text k bs s
 unfolding escaped stringFrom
 string-read text k [] s p h = record { end = k + 1; is = rw h; rest = past-byte text k h }

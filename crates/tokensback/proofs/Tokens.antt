@@ -25,11 +25,11 @@ use Rattle.operands.specs.Operands as operands
 use Rattle.tokensback.proofs.Standing.{Stands, Takes, Marks, Feeds, ends}
 use Rattle.tokensback.proofs.Places.{byte-here, past-byte, past-two, stands-behind, space-passed, outside-here, inside-here, begun, mark-from}
 use Rattle.tokensback.proofs.Spans.{span-here, letter-fails, word-long}
-use Rattle.tokensback.proofs.Numbers.{numeral-back, digits-end, single-took, positive-long, negative-long}
+use Rattle.tokensback.proofs.Numbers.{numeral-back, index-back, digits-end, single-took, positive-long, negative-long}
 use Rattle.tokensback.proofs.Strings.{string-read}
-use Rattle.tokensback.proofs.Parts.{star-fails, ended-part, io-long}
+use Rattle.tokensback.proofs.Parts.{unparted, ended, parted, io-long}
 use Rattle.tokensback.proofs.Constants.{char-constant, chars-constant, chars-meant, trits-chars, constant-fails, constant-long}
-use Rattle.tokensback.proofs.Cells.{unparted, parted, unopened-number, width-parted, width-meant, offset-first, offset-parted, offset-unopened, cell-long}
+use Rattle.tokensback.proofs.Cells.{unopened-number, width-parted, width-meant, offset-first, offset-parted, offset-unopened, cell-long}
 
 module _ (text : List ℕ) (k : ℕ) where
   -- behind a space a token may begin
@@ -72,9 +72,9 @@ module _ (text : List ℕ) (k : ℕ) where
 
   -- `!` and a number
   pub meta-back : {s : List ℕ} (n : ℕ) → n ≤ 65535 → ends s ≡ true → Stands text k (33 ∷ words.number n s) → Takes text k (plain meta k n 0 0) s
-  unfolding words.number longOf metaOf classOf classFrom
+  unfolding longOf metaOf classOf classFrom
   meta-back {s} n l e h =
-      let i = numeral-back 65535 text (k + 1) n s l (omega arith) (digits-end s e) (past-byte text k (h .rest)) in
+      let i = index-back text (k + 1) n s l (digits-end s e) (past-byte text k (h .rest)) in
       begun text k 33 h (omega arith) (omega arith) (i .end) (single-took meta k (k + 1) (λ v. v) i) (i .rest)
 
   -- `#` and a number with its sign
@@ -108,11 +108,12 @@ module _ (text : List ℕ) (k : ℕ) where
   -- the declaration of an input or output: `&"name":w`
   pub io-back : {s : List ℕ} (bs : List ℕ) (w : ℕ) → every isByte bs ≡ true → w ≤ 65535 → ends s ≡ true
       → Stands text k (38 ∷ words.quoted bs (58 ∷ words.number w s)) → Takes text k (token io k 0 (k + 2) (length bs) 2 0 w 0) s
-  unfolding words.quoted words.number longOf classOf classFrom
+  unfolding words.quoted longOf classOf classFrom
   io-back {s} bs w p l e h =
-      let t = string-read text (k + 2) bs (58 ∷ (decimal w ++ s)) p (past-two text k (h .rest)) in
-      let i = numeral-back 65535 text (t .end + 1) w s l (omega arith) (digits-end s e) (past-byte text (t .end) (t .rest)) in
-      begun text k 38 h (omega arith) (omega arith) (i .end) (io-long k (byte-here text (k + 1) 34 (past-byte text k (h .rest))) t i) (i .rest)
+      let t = string-read text (k + 2) bs (58 ∷ words.number w s) p (past-two text k (h .rest)) in
+      let o = unparted text 43 (t .end) refl (t .rest) in
+      let q = parted text 58 (t .end) w l (digits-end s e) (t .rest) in
+      begun text k 38 h (omega arith) (omega arith) (q .end) (io-long k (byte-here text (k + 1) 34 (past-byte text k (h .rest))) t o q) (q .rest)
 
   -- a constant, by its characters
   pub constant-back : {s : List ℕ} (ts : List ℕ) → 1 ≤ length ts → every isTrit ts ≡ true → ends s ≡ true
@@ -127,7 +128,8 @@ module _ (text : List ℕ) (k : ℕ) where
       let d = h .rest ∙ trits-chars (t ∷ ts) s in
       let g : spanEnd isConstant (drop k text) k ≡ k + n = rw m at (span-here isConstant text k (map tritChar (t ∷ ts)) s constant-fails (chars-constant (t ∷ ts) p) e d) in
       let q : drop (k + n) text ≡ s = rw m at (part-next text k (map tritChar (t ∷ ts)) s d) in
-      begun text k (tritChar t) h (omega arith) (omega arith) (k + n) (constant-long text k (tritChar t) n c g (ended-part text 42 (k + n) star-fails e q)) q
+      let a = ended text 42 (k + n) refl e q in
+      begun text k (tritChar t) h (omega arith) (omega arith) (a .end) (constant-long text k (tritChar t) n c g a) (a .rest)
 
   -- and by its trits
   pub constant-meant : (ts s : List ℕ) → every isTrit ts ≡ true → drop k text ≡ words.trits ts s → map tritOf (part k (length ts) text) ≡ ts
@@ -139,25 +141,26 @@ module _ (text : List ℕ) (k : ℕ) where
   -- a cell's declaration: `%n:w`
   pub declared-back : {s : List ℕ} (n w : ℕ) → n ≤ 65535 → w ≤ 65535 → ends s ≡ true
       → Stands text k (37 ∷ words.number n (58 ∷ words.number w s)) → Takes text k (token cell k n 0 0 2 0 w 0) s
-  unfolding words.number longOf classOf classFrom
+  unfolding longOf classOf classFrom
   declared-back {s} n w l m e h =
-      let r : List ℕ = 58 ∷ (decimal w ++ s) in
-      let i = numeral-back 65535 text (k + 1) n r l (omega arith) refl (past-byte text k (h .rest)) in
-      let o = unparted text 43 (i .end) refl (i .rest) in
-      let q = parted text 58 (o .end) w m (digits-end s e) (o .rest) in
-      begun text k 37 h (omega arith) (omega arith) (q .end) (cell-long k i o q (unopened-number text (i .end) s w m (digits-end s e) (i .rest)) e) (q .rest)
+      let i = index-back text (k + 1) n (58 ∷ words.number w s) l refl (past-byte text k (h .rest)) in
+      let p = unparted text 43 (i .end) refl (i .rest) in
+      let q = parted text 58 (p .end) w m (digits-end s e) (p .rest) in
+      let c = ended text 42 (q .end) refl e (q .rest) in
+      begun text k 37 h (omega arith) (omega arith) (c .end) (cell-long k i p q c (unopened-number text (i .end) s w m (digits-end s e) (i .rest))) (c .rest)
 
   -- a piece: `+o` unless it is whole, `:w` unless it is 1 wide
   pub piece-back : {s : List ℕ} (n o w : ℕ) (whole : Bool) → (whole ≡ true → o ≡ 0) → n ≤ 65535 → o ≤ 65535 → w ≤ 65535 → ends s ≡ true
       → Stands text k (37 ∷ words.number n (operands.offset whole o (operands.width w s)))
       → Takes text k (token cell k n 0 0 (written (not whole) (not (eqb w 1)) false) o w 0) s
-  unfolding words.number longOf classOf classFrom
+  unfolding longOf classOf classFrom
   piece-back {s} n o w whole z a b c e h =
-      let r = operands.offset whole o (operands.width w s) in
-      let i = numeral-back 65535 text (k + 1) n r a (omega arith) (offset-first whole o w s e) (past-byte text k (h .rest)) in
+      let i = index-back text (k + 1) n _ a (offset-first whole o w s e) (past-byte text k (h .rest)) in
       let p = offset-parted whole o w s e text (i .end) (i .rest) z b in
       let q = width-parted w s e text (p .end) c (p .rest) in
-      begun text k 37 h (omega arith) (omega arith) (q .end) (cell-long k i p q (offset-unopened whole o w s e text (i .end) (i .rest) c) e ∙ rw (width-meant w)) (q .rest)
+      let r = ended text 42 (q .end) refl e (q .rest) in
+      begun text k 37 h (omega arith) (omega arith) (r .end)
+      (cell-long k i p q r (offset-unopened whole o w s e text (i .end) (i .rest) c) ∙ rw (width-meant w)) (r .rest)
 
   -- a word of letters
   pub word-back : {s : List ℕ} (ls : List ℕ) → 1 ≤ length ls → every isLetter ls ≡ true → ends s ≡ true
