@@ -86,7 +86,7 @@ tens-reach (suc c) j n h = bool-cases (leb (10 ^ j) n)
     let l = leb-false (10 ^ j) n e in
     omega arith)
 
-places-reach : (n : ℕ) → n < 10 ^ 10 → n < 10 ^ suc (places n)
+pub places-reach : (n : ℕ) → n < 10 ^ 10 → n < 10 ^ suc (places n)
 unfolding places tens
 places-reach n h =
     let e : 1 + places n ≡ suc (places n) = omega arith in

@@ -1,0 +1,4 @@
+pub mod Runs
+pub mod Operands
+pub mod Keywords
+pub mod Lines
