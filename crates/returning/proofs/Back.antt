@@ -1,21 +1,17 @@
 -- THE WAY BACK: the canonical text of a valid netlist, read, says that netlist. So two valid netlists with one text are one netlist.
-use Prim.Native.Nat.{ℕ, zero, suc, _+_, _-_, _<_, _≤_}
+use Prim.Native.Nat.{ℕ, suc, _+_, _-_}
 use native.Mathlib.Omega.{arith}
-use mathlib.Core.Path.{_≡_, refl, sym, ap, _∙_, subst}
-use mathlib.Core.Bool.{Bool, true, false, _&&_}
+use mathlib.Core.Path.{_≡_, refl, sym, ap, _∙_}
+use mathlib.Core.Bool.{true}
 use mathlib.Core.List.{List, [], _∷_, _++_, map, append-assoc}
 use mathlib.Core.Option.{none}
 use lib.Dec.{eqb}
 use lib.ListN.{length, drop, length-append}
-use borrow.Author.Tests.{eqb-true, eqb-false}
 use Rattle.ground.specs.Choice.{pick}
 use Rattle.ground.specs.Lists.{total, upFrom}
-use Rattle.ground.proofs.Bools.{bool-cases, never-both, and-true, fact}
 use Rattle.lexis.specs.Bytes.{classOf, classFrom}
 use Rattle.lexis.specs.Pieces.{insideEnd}
 use Rattle.lexis.specs.Tokens.{tokenFrom, insideAt, follows}
-use Rattle.lexis.specs.Whole.{wholeOf}
-use Rattle.lexis.specs.declared.Whole.the-variants as whole
 use Rattle.form.specs.Forms.{formAt, openForm}
 use Rattle.form.specs.declared.Form.the-variants as form
 use Rattle.netlist.specs.Netlist.{Meta, Io, Cell, Netlist}
@@ -23,22 +19,22 @@ use Rattle.netlist.specs.Rules.{valid, widthsOf}
 use Rattle.netlist.proofs.Laying.{valid-roomy}
 use Rattle.numbering.specs.Numbers.{numbersFrom}
 use Rattle.saying.specs.Pieces.{PieceAt, firstUnresolved}
-use Rattle.saying.specs.Rules.{Sofar, nothing}
-use Rattle.declaring.specs.Reading.{declarationsFrom, all, Reading, says, netlistOf, declared, resolved, readSound, reading}
+use Rattle.saying.specs.Rules.{nothing}
+use Rattle.declaring.specs.Reading.{declarationsFrom, all, says, netlistOf, readSound}
 use Rattle.declaring.proofs.Declaring.{form-ends}
 use Rattle.celllines.specs.CellLines.{cellLines}
-use Rattle.printing.specs.Lines.{metaLines, ioLines, isBare, lines, canonical}
-use Rattle.fronts.specs.Fronts.{metasSo, iosSo, cellsSo, numberPast, numberCell}
+use Rattle.printing.specs.Lines.{metaLines, ioLines, lines}
+use Rattle.fronts.specs.Fronts.{cellsSo, numberPast, numberCell}
 use Rattle.fronts.proofs.Rows.{length-mapped}
 use Rattle.fronts.proofs.Cutting.{cells-back}
 use Rattle.fronts.proofs.Sound.{meta-sound-at, io-sound-at, cell-sound-at}
 use Rattle.tokensback.proofs.Standing.{Stands}
 use Rattle.tokensback.proofs.Tokens.{end-back}
-use Rattle.returning.proofs.Plain.{Lined, no-lines, lined-fine, fine-sound}
+use Rattle.returning.proofs.Plain.{Lined, no-lines}
 use Rattle.returning.proofs.Metadata.{meta-lined, io-lined}
 use Rattle.returning.proofs.Cells.{cell-lined}
-use Rattle.returning.proofs.Turns.{Comes, metas-come, ios-come}
-use Rattle.returning.proofs.CellTurns.{numbers, widths, numbers-fit, past-small, past-more, AllCome, cells-come}
+use Rattle.returning.proofs.Turns.{metas-come, ios-come}
+use Rattle.returning.proofs.CellTurns.{numbers, widths, numbers-fit, past-small, past-more, cells-come}
 
 -- THE LINES, as many as there are declarations
 module _ (N : Netlist) (v : valid N ≡ true) where

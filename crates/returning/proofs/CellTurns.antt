@@ -1,29 +1,29 @@
 -- The declarations of the cells, one after the other: each passes, and all their pieces resolve.
-use Prim.Native.Nat.{ℕ, zero, suc, _+_, _<_, _≤_}
+use Prim.Native.Nat.{ℕ, zero, suc, _+_, _≤_}
 use native.Mathlib.Omega.{arith}
 use mathlib.Core.Path.{_≡_, refl, sym, ap, _∙_, subst}
-use mathlib.Core.Bool.{true, false}
+use mathlib.Core.Bool.{true}
 use mathlib.Core.List.{List, [], _∷_, _++_, map, append-assoc, append-nil}
 use mathlib.Core.Option.{none}
 use lib.Dec.{eqb}
 use lib.ListN.{length, getD, length-append}
 use Rattle.ground.specs.Choice.{pick}
-use Rattle.ground.specs.Lists.{total, every}
+use Rattle.ground.specs.Lists.{total}
 use Rattle.ground.proofs.Bools.{bool-cases, fact}
-use Rattle.netlist.specs.Netlist.{Meta, Run, Cell, Netlist, operandWidth}
-use Rattle.netlist.specs.Rules.{valid, roomy, widthsOf, cellSound, operandSound}
+use Rattle.netlist.specs.Netlist.{Meta, Cell, Netlist, operandWidth}
+use Rattle.netlist.specs.Rules.{valid, widthsOf, cellSound}
 use Rattle.netlist.proofs.Laying.{valid-roomy}
 use Rattle.numbering.specs.Numbers.{numbersFrom}
 use Rattle.saying.specs.Pieces.{PieceAt, firstUnresolved}
-use Rattle.saying.specs.Rules.{Sofar, Said, cell, saidBy}
-use Rattle.celllines.specs.CellLines.{cellLine, cellLines}
-use Rattle.fronts.specs.Fronts.{cellsSo, numberPast, numberCell, numberRun}
+use Rattle.saying.specs.Rules.{Sofar, cell, saidBy}
+use Rattle.celllines.specs.CellLines.{cellLines}
+use Rattle.fronts.specs.Fronts.{cellsSo, numberPast, numberCell}
 use Rattle.fronts.proofs.Rows.{rowed, length-mapped, numbers-long, number-row, number-small}
 use Rattle.fronts.proofs.Cutting.{cut-back}
 use Rattle.fronts.proofs.Room.{total-append}
 use Rattle.fronts.proofs.Sound.{cell-sound-at}
 use Rattle.fronts.proofs.Passes.{cell-added, cell-passes}
-use Rattle.tokensback.proofs.Standing.{Stands, Declares}
+use Rattle.tokensback.proofs.Standing.{Stands}
 use Rattle.cellsback.proofs.Runs.{Numbered}
 use Rattle.cellsback.proofs.Operands.{both-found}
 use Rattle.cellsback.proofs.Lines.{cutCell, CellSaid, cell-line-back}

@@ -1,7 +1,7 @@
 -- Each printed line of a cell is plain.
 use Prim.Native.Nat.{ℕ, _+_, _≤_}
 use mathlib.Core.Path.{_≡_, refl}
-use mathlib.Core.Bool.{Bool, true, false, _&&_}
+use mathlib.Core.Bool.{Bool, true}
 use mathlib.Core.List.{List, [], _∷_}
 use native.Mathlib.Omega.{arith}
 use lib.Dec.{leb, ltb, eqb}
@@ -15,7 +15,7 @@ use Rattle.kinds.proofs.Widths.{picked}
 use Rattle.netlist.specs.Netlist.{Run, const, piece, Cell}
 use Rattle.netlist.specs.Runs.{longest}
 use Rattle.netlist.specs.Rules.{isByte, isTrit, resolves, runSound, operandSound, cellSound}
-use Rattle.operands.specs.Operands.{offset, width, run, runs, operand}
+use Rattle.operands.specs.Operands.{offset, width, run, runs}
 use Rattle.celllines.specs.CellLines.{nameText, operandText, cellLine}
 use Rattle.returning.proofs.Plain.{plainByte, Fine, Lined, fine-more, line-end, line-first}
 use Rattle.returning.proofs.Words.{text-fine, number-fine, quoted-fine, trits-fine, option-fine}

@@ -6,3 +6,4 @@ pub mod Turns
 pub mod CellTurns
 pub mod Back
 pub mod RoundTrip
+pub mod TablesBack

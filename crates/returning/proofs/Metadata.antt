@@ -1,23 +1,21 @@
 -- Each printed line of metadata and I/O is plain.
 use Prim.Native.Nat.{ℕ, _+_, _≤_}
 use mathlib.Core.Path.{_≡_, refl}
-use mathlib.Core.Bool.{Bool, true, false, not, _&&_, _||_}
+use mathlib.Core.Bool.{Bool, true}
 use mathlib.Core.List.{List, [], _∷_}
 use native.Mathlib.Omega.{arith}
 use lib.Dec.{leb, eqb}
-use lib.ListN.{length, getD}
+use lib.ListN.{length}
 use borrow.Author.Tests.{leb-true, le-leb, eqb-true}
-use Rattle.ground.specs.Choice.{pick}
-use Rattle.ground.specs.Lists.{every, allOf}
+use Rattle.ground.specs.Lists.{every}
 use Rattle.ground.specs.Text.{bytes}
 use Rattle.ground.proofs.Bools.{bool-cases, and-true, fact, every-first, every-more}
-use Rattle.kinds.specs.Kinds.{wide}
 use Rattle.kinds.proofs.Widths.{picked, wide-is}
 use Rattle.netlist.specs.Netlist.{Meta, Io, setMeta, sourceMeta, scopeMeta, indexedMeta, identMeta, bitsMeta, integerMeta, isScope}
-use Rattle.netlist.specs.Rules.{isByte, isTrit, isNumber, refers, mayRefer, isMember, isSource, metaSound, ioSound, ranges}
+use Rattle.netlist.specs.Rules.{isNumber, refers, mayRefer, isMember, isSource, metaSound, ioSound}
 use Rattle.writing.specs.Words.{text, quoted}
-use Rattle.printing.specs.Lines.{point, scopeLine, setText, sourceText, scopeText, indexedText, identText, attrValue, attrText, metaBody, metaLine, ioLine}
-use Rattle.returning.proofs.Plain.{plainByte, Fine, Lined, fine-more, line-end, line-first}
+use Rattle.printing.specs.Lines.{point, scopeLine, attrValue, metaBody, metaLine, ioLine}
+use Rattle.returning.proofs.Plain.{Fine, Lined, fine-more, line-end, line-first}
 use Rattle.returning.proofs.Words.{text-fine, number-fine, hash-fine, quoted-fine, trits-fine, reference-fine, references-fine, option-fine}
 
 -- a reference is no more than there are rows

@@ -1,17 +1,16 @@
 -- The canonical text is sound as a whole: plain bytes, the last a line feed.
 use Prim.Native.Nat.{ℕ, zero, suc, _+_, _-_, _/_, _%_, _^_, _<_, _≤_}
 use mathlib.Core.Path.{_≡_, refl}
-use mathlib.Core.Bool.{Bool, true, false, not, _&&_}
+use mathlib.Core.Bool.{Bool, true, not, _&&_}
 use mathlib.Core.List.{List, [], _∷_, _++_}
-use mathlib.Core.Option.{Option, none, some}
+use mathlib.Core.Option.{none, some}
 use native.Mathlib.Omega.{arith}
 use native.Mathlib.Nat.{div-lt-iff-lt-mul, mod-lt}
-use lib.Dec.{leb, ltb, eqb}
+use lib.Dec.{leb, eqb}
 use lib.ListN.{length}
 use borrow.Author.Tests.{le-leb, lt-leb, leb-true, leb-false, le-ltb, eqb-false, ne-eqb}
-use Rattle.ground.specs.Choice.{pick}
 use Rattle.ground.specs.Lists.{every}
-use Rattle.ground.proofs.Bools.{bool-cases, never-both, and-true, true-and, every-first, every-more}
+use Rattle.ground.proofs.Bools.{bool-cases, never-both, and-true, every-first, every-more}
 use Rattle.lexis.specs.Whole.{wholeOf, badFrom, tailOf, sequences, endsInFeed}
 use Rattle.lexis.specs.declared.Whole.the-variants as whole
 use Rattle.writing.specs.Decimal.{digits}

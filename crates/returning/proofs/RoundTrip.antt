@@ -2,20 +2,18 @@
 use Prim.Native.Nat.{ℕ, suc, _+_, _≤_}
 use native.Mathlib.Omega.{arith}
 use mathlib.Core.Path.{_≡_, refl, sym, ap, _∙_}
-use mathlib.Core.Bool.{Bool, true, false, _&&_}
+use mathlib.Core.Bool.{true, false, _&&_}
 use mathlib.Core.List.{List, [], _∷_}
 use lib.Dec.{eqb, leb}
 use lib.ListN.{length}
 use borrow.Author.Tests.{eqb-true, eq-eqb, leb-true, leb-false}
 use Rattle.ground.proofs.Bools.{bool-cases, never-both, and-true, true-and}
-use Rattle.lexis.specs.Whole.{wholeOf}
-use Rattle.lexis.specs.declared.Whole.the-variants as whole
 use Rattle.netlist.specs.Netlist.{Meta, Io, Cell, Netlist}
 use Rattle.netlist.specs.Rules.{valid}
 use Rattle.declaring.specs.Reading.{Reading, says, refused, readSound, reading}
 use Rattle.printing.specs.Lines.{isBare, lines, canonical}
 use Rattle.returning.proofs.Plain.{Fine, line-end, no-lines, lined-fine, fine-sound}
-use Rattle.returning.proofs.Back.{count, lines-lined, lines-return, blank-says}
+use Rattle.returning.proofs.Back.{lines-lined, lines-return, blank-says}
 
 -- a netlist without declarations
 abbrev nothing : Netlist

@@ -1,29 +1,26 @@
 -- The declarations of the canonical text, one after the other: each passes, and what is said grows by what was printed.
-use Prim.Native.Nat.{ℕ, zero, suc, _+_, _-_, _<_, _≤_}
+use Prim.Native.Nat.{ℕ, suc, _+_, _-_}
 use native.Mathlib.Nat.{zero-add, suc-add}
 use native.Mathlib.Omega.{arith}
 use mathlib.Core.Path.{_≡_, refl, sym, ap, _∙_, subst}
-use mathlib.Core.Bool.{true, false}
+use mathlib.Core.Bool.{true}
 use mathlib.Core.List.{List, [], _∷_, _++_, map, append-assoc, append-nil}
 use mathlib.Core.Option.{none}
-use lib.ListN.{length, getD, length-append}
-use Rattle.ground.specs.Choice.{pick}
+use lib.ListN.{length, length-append}
 use Rattle.ground.specs.Refusals.{at}
-use Rattle.form.specs.Forms.{formAt}
 use Rattle.form.specs.declared.Decl.{Decl}
 use Rattle.form.specs.declared.Declared.{Declared}
-use Rattle.netlist.specs.Netlist.{Meta, Io, Cell, Netlist, operandWidth}
-use Rattle.netlist.specs.Rules.{valid, widthsOf, metaSound}
+use Rattle.netlist.specs.Netlist.{Meta, Io, Netlist}
+use Rattle.netlist.specs.Rules.{valid}
 use Rattle.netlist.proofs.Laying.{valid-roomy}
-use Rattle.saying.specs.Pieces.{PieceAt, firstUnresolved}
-use Rattle.saying.specs.Rules.{Sofar, Said, metadata, pad, cell, saidBy, askedOf, added, ruledOut, firstMisnamed}
+use Rattle.saying.specs.Rules.{Sofar, Said, metadata, pad, saidBy, added, ruledOut}
 use Rattle.declaring.specs.Reading.{declarationsFrom}
 use Rattle.declaring.proofs.Declaring.{goes-on}
-use Rattle.printing.specs.Lines.{metaLine, metaLines, ioLine, ioLines}
-use Rattle.fronts.specs.Fronts.{Rowed, metasSo, iosSo, cellsSo, numberPast, numberCell}
+use Rattle.printing.specs.Lines.{metaLines, ioLines}
+use Rattle.fronts.specs.Fronts.{metasSo, iosSo}
 use Rattle.fronts.proofs.Rows.{rowed, length-mapped}
-use Rattle.fronts.proofs.Sound.{meta-sound-at, io-sound-at, cell-sound-at}
-use Rattle.fronts.proofs.Passes.{meta-added, io-added, cell-added, meta-passes, io-passes, cell-passes}
+use Rattle.fronts.proofs.Sound.{meta-sound-at, io-sound-at}
+use Rattle.fronts.proofs.Passes.{meta-added, io-added, meta-passes, io-passes}
 use Rattle.tokensback.proofs.Standing.{Stands, Declares}
 use Rattle.linesback.proofs.Lines.{meta-line-back, io-line-back}
 

@@ -1,19 +1,17 @@
 -- Each printed token is plain.
-use Prim.Native.Nat.{ℕ, zero, suc, _+_, _-_, _/_, _%_, _^_, _<_, _≤_}
+use Prim.Native.Nat.{ℕ, _+_, _-_, _/_, _%_, _<_, _≤_}
 use Prim.Native.String.{String}
 use mathlib.Core.Path.{_≡_, refl}
-use mathlib.Core.Bool.{Bool, true, false, not, _&&_, _||_}
+use mathlib.Core.Bool.{true, not, _&&_, _||_}
 use mathlib.Core.List.{List, [], _∷_, _++_}
 use native.Mathlib.Omega.{arith}
-use native.Mathlib.Nat.{div-lt-iff-lt-mul, mod-lt}
 use lib.Dec.{leb, ltb, eqb}
-use borrow.Author.Tests.{le-leb, lt-leb, leb-true, leb-false, ltb-true, ltb-false, lt-ltb, le-ltb, eqb-true, eqb-false, ne-eqb}
-use Rattle.ground.specs.Choice.{pick}
+use borrow.Author.Tests.{leb-true, ltb-true}
 use Rattle.ground.specs.Lists.{every}
 use Rattle.ground.specs.Text.{bytes}
-use Rattle.ground.proofs.Bools.{bool-cases, never-both, and-true, every-first}
+use Rattle.ground.proofs.Bools.{bool-cases, and-true, every-first}
 use Rattle.netlist.specs.Rules.{isByte, isTrit, isNumber}
-use Rattle.writing.specs.Decimal.{digits, places, decimal, signed}
+use Rattle.writing.specs.Decimal.{places, decimal, signed}
 use Rattle.writing.specs.Words.{text, number, hash, rawByte, hexDigit, escaped, quoted, tritChar, trits, reference, references, option}
 use Rattle.tokensback.proofs.Numbers.{places-reach}
 use Rattle.returning.proofs.Plain.{plainByte, plain-small, Fine, fine-more, fine-front, digits-plain}
