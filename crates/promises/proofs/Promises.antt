@@ -4,13 +4,24 @@ use mathlib.Core.Bool.{Bool, true, false}
 use mathlib.Core.List.{List}
 use mathlib.Core.Option.{Option, none}
 use Prim.Native.Nat.{ℕ, _*_, _<_, _≤_}
-use lib.ListN.{length}
+use lib.ListN.{length, take}
+use Rattle.ground.specs.Regions.{zeros, over}
 use Rattle.netlist.specs.Netlist.{Netlist}
 use Rattle.netlist.specs.Rules.{valid}
 use Rattle.netlist.specs.Tables.{Tables, layout}
 use Rattle.netlist.specs.View.{view}
-use Rattle.netlist.specs.Good.{good}
+use Rattle.netlist.specs.Good.{good, checkOf}
+use Rattle.netlist.specs.declared.Checked.the-variants as checked
 use Rattle.netlist.proofs.Laying.{Long, Layout, view-layout, good-is, layout-good}
+use Rattle.declaring.specs.Reading.{says, reading}
+use Rattle.reading.specs.Outcome.{readOf, made, workLength}
+use Rattle.reading.specs.declared.Read.the-variants as read
+use Rattle.printing.specs.Lines.{canonical}
+use Rattle.printing.specs.Outcome.{printOf}
+use Rattle.printing.specs.declared.Printed.the-variants as printed
+use Rattle.accepting.proofs.Good.{Accepted, accepted-good}
+use Rattle.returning.proofs.RoundTrip.{returns, one-text}
+use Rattle.returning.proofs.TablesBack.{printed-return}
 use Rattle.loadlist.specs.Records.{listBytes}
 use Rattle.loadlist.specs.Check.{badRecord}
 use Rattle.loadlist.specs.Run.{outputs, assigns}
@@ -28,6 +39,24 @@ good-tables T l = (good-is T l, layout-good T)
 
 pub shown-again : (N : Netlist) → valid N ≡ true → view (layout N) ≡ N
 shown-again = view-layout
+
+-- Demand 2: what reading accepts is good, and shows what the text says
+pub accepted-tables : (text rows strings bits work : List ℕ) → readOf text rows strings bits work .answer ≡ read.Accepted → Accepted text (readOf text rows strings bits work)
+accepted-tables = accepted-good
+
+-- "printing gives one text per netlist, which reads back to the same": for a text within 65,536 bytes
+pub text-and-back : (N : Netlist) → valid N ≡ true → length (canonical N) ≤ 65536 → reading (canonical N) ≡ says N
+text-and-back = returns
+
+-- good tables, printed and read, are the same tables, every word and byte
+pub tables-and-back : (rows strings bits : List ℕ) → checkOf rows strings bits ≡ checked.Good → (room work : List ℕ) (n : ℕ)
+    → printOf rows strings bits room .answer ≡ printed.Length n → n ≤ 65536 → workLength ≤ length work
+    → readOf (take n (printOf rows strings bits room .room)) rows strings bits work ≡ made read.Accepted rows strings bits (over workLength (zeros workLength) work)
+tables-and-back = printed-return
+
+-- no two netlists have one text, whatever its length
+pub one-netlist : (M N : Netlist) → valid M ≡ true → valid N ≡ true → canonical M ≡ canonical N → M ≡ N
+one-netlist = one-text
 
 module _ (N : Netlist) (v : valid N ≡ true) where
   -- "whose cells form no ring": 20 is told exactly where a cell is reached from itself
