@@ -1,3 +1,9 @@
 pub mod Moves
 pub mod Onward
 pub mod Progress
+pub mod Growth
+pub mod Firsts
+pub mod Once
+pub mod Telling
+pub mod Taking
+pub mod Exactly

@@ -201,13 +201,14 @@ module _ (text : List ℕ) (k : ℕ) where
       (either k (isSpecial b) _ _ (other k _ _ refl (omega arith))
       (either k (follows text k) _ _ refl (long-moves b)))))
 
--- THE TOKEN, outside and between brackets
+-- THE TOKEN from the place on
 pub token-moves : (text : List ℕ) (k : ℕ) → Moves k (tokenAt text k)
 unfolding tokenAt
 token-moves text k =
     let j = spanEnd isWhite (drop k text) k in
     moves-from k j (tokenFrom text j (drop j text)) (span-on isWhite (drop k text) k) (from-moves text j (drop j text))
 
+-- the same between brackets
 pub inside-moves : (text : List ℕ) (k : ℕ) → Moves k (insideAt text k)
 unfolding insideAt
 inside-moves text k =

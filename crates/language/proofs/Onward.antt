@@ -52,17 +52,21 @@ module _ (text : List ℕ) (k : ℕ) where
   step-on (step.Took t r) h = h .on
   step-on (step.Refused g) h = refl
 
+  -- a token that passes a test
   pub only-on : (p : Token → Bool) (s : Step) → StepOn k s → StepOn k (only p s)
   only-on p (step.Took t r) h = picked (StepOn k) (p t) _ _ h refl
   only-on p (step.Refused g) h = refl
 
+  -- the next token
   pub token-on : (j : ℕ) → k ≤ j → StepOn k (tokenAt text j)
   token-on j l = step-on (tokenAt text j) (moves-from k j (tokenAt text j) l (token-moves text j))
 
+  -- the next token between brackets
   pub inside-on : (j : ℕ) → k ≤ j → StepOn k (insideAt text j)
   inside-on j l = step-on (insideAt text j) (moves-from k j (insideAt text j) l (inside-moves text j))
 
   -- SETS AND CONCATENATIONS
+  -- the members of a set
   pub set-on : (f n j : ℕ) → k ≤ j → MeasureOn k (setFrom f text n j)
   unfolding setFrom nextMember
   set-on zero n j l = refl
@@ -99,6 +103,7 @@ module _ (text : List ℕ) (k : ℕ) where
       go (step.Took t r) h = picked (OperandOn k) (isPart t) _ _ h
           (picked (OperandOn k) (isMark 91 t) _ _ (closed-on j (concatAt text (r .next .at)) (concat-on (suc (length text)) 0 (r .next .at) h)) refl)
 
+  -- an operand, where the keyword has one
   pub operand-if-on : (given : Bool) (j : ℕ) → k ≤ j → OperandOn k (operandIf given text j)
   unfolding operandIf
   operand-if-on true j l = operand-on j l
@@ -113,10 +118,12 @@ module _ (text : List ℕ) (k : ℕ) where
   link-from (step.Took t r) h = link-of (only (isSort meta) (tokenAt text (r .next .at))) (only-on (isSort meta) (tokenAt text (r .next .at)) (token-on (r .next .at) h))
   link-from (step.Refused g) h = refl
 
+  -- a reference that must stand
   pub link-on : (j : ℕ) → k ≤ j → LinkOn k (linkAt text j)
   unfolding linkAt
   link-on j l = link-from (markAt text 61 j) (only-on (isMark 61) (tokenAt text j) (token-on j l))
 
+  -- an option that may be left out
   pub option-on : (w : List ℕ) (j : ℕ) → k ≤ j → LinkOn k (optionAt text w j)
   unfolding optionAt
   option-on w j l = go (tokenAt text j) (token-on j l)
@@ -125,6 +132,7 @@ module _ (text : List ℕ) (k : ℕ) where
       go (step.Took t r) h = picked (LinkOn k) (isSpelled text w t) _ _ (link-on (r .next .at) h) l
       go (step.Refused g) h = refl
 
+  -- a cell's metadata
   pub meta-on : (j : ℕ) → k ≤ j → LinkOn k (metaIf text j)
   unfolding metaIf
   meta-on j l = go (tokenAt text j) (token-on j l)
@@ -142,6 +150,7 @@ module _ (text : List ℕ) (k : ℕ) where
   closed-point p (step.Took t r) h = h
   closed-point p (step.Refused g) h = refl
 
+  -- a point of a source range
   pub point-on : (j : ℕ) → k ≤ j → PointOn k (pointAt text j)
   unfolding pointAt
   point-on j l = to-point (only (isMark 40) (tokenAt text j)) _ (only-on (isMark 40) (tokenAt text j) (token-on j l)) (λ _ k1 h.
