@@ -20,6 +20,8 @@ use Rattle.printing.specs.Lines.{canonical}
 use Rattle.printing.specs.Outcome.{printOf}
 use Rattle.printing.specs.declared.Printed.the-variants as printed
 use Rattle.accepting.proofs.Good.{Accepted, accepted-good}
+use Rattle.language.specs.Language.{Says}
+use Rattle.language.proofs.Exactly.{says-read, read-says}
 use Rattle.returning.proofs.RoundTrip.{returns, one-text}
 use Rattle.returning.proofs.TablesBack.{printed-return}
 use Rattle.loadlist.specs.Records.{listBytes}
@@ -40,7 +42,15 @@ good-tables T l = (good-is T l, layout-good T)
 pub shown-again : (N : Netlist) → valid N ≡ true → view (layout N) ≡ N
 shown-again = view-layout
 
--- Demand 2: what reading accepts is good, and shows what the text says
+-- Demand 2: "Text is accepted exactly when the published Unnamed IR language reference, as document 01 completes and narrows it, allows
+-- it, and the tables then hold what it says": the language is stated apart from the order in which reading asks
+pub language-read : (text : List ℕ) (N : Netlist) → Says text N → reading text ≡ says N
+language-read = says-read
+
+pub read-language : (text : List ℕ) (N : Netlist) → reading text ≡ says N → Says text N
+read-language = read-says
+
+-- what reading accepts is good, and shows what the text says
 pub accepted-tables : (text rows strings bits work : List ℕ) → readOf text rows strings bits work .answer ≡ read.Accepted → Accepted text (readOf text rows strings bits work)
 accepted-tables = accepted-good
 
