@@ -3,3 +3,4 @@ pub mod Order
 pub mod Pigeon
 pub mod Ready
 pub mod Ring
+pub mod Same

@@ -16,16 +16,16 @@ use Rattle.graph.proofs.Ready.{mem-here, mem-there, mem-cases, place-sa
 
 -- How many rows below n are not placed
 
-unplaced : (ℕ → Bool) → ℕ → ℕ
+pub unplaced : (ℕ → Bool) → ℕ → ℕ
 unplaced P zero = 0
 unplaced P (suc n) = pick (P n) 0 1 + unplaced P n
 
-unplaced-same : (P Q : ℕ → Bool) (n : ℕ) → ((j : ℕ) → j < n → P j ≡ Q j) → unplaced P n ≡ unplaced Q n
+pub unplaced-same : (P Q : ℕ → Bool) (n : ℕ) → ((j : ℕ) → j < n → P j ≡ Q j) → unplaced P n ≡ unplaced Q n
 unfolding unplaced
 unplaced-same P Q zero h = refl
 unplaced-same P Q (suc n) h = ap₂ (λ b m. pick b 0 1 + m) (h n (omega arith)) (unplaced-same P Q n (λ j l. h j (omega arith)))
 
-unplaced-most : (P : ℕ → Bool) (n : ℕ) → unplaced P n ≤ n
+pub unplaced-most : (P : ℕ → Bool) (n : ℕ) → unplaced P n ≤ n
 unfolding unplaced
 unplaced-most P zero = omega arith
 unplaced-most P (suc n) = bool-cases (P n) (λ e. rw e (omega (arith, unplaced-most P n))) (λ e. rw e (omega (arith, unplaced-most P n)))
@@ -41,7 +41,7 @@ unplaced-zero P (suc n) z i l = go (P n) refl z (λ z′. unplaced-zero P n z′
     go false e z′ ih d = absurd (omega arith)
 
 -- placing an unplaced row leaves one less
-unplaced-place : (P : ℕ → Bool) (r n : ℕ) → r < n → P r ≡ false → suc (unplaced (place P r) n) ≡ unplaced P n
+pub unplaced-place : (P : ℕ → Bool) (r n : ℕ) → r < n → P r ≡ false → suc (unplaced (place P r) n) ≡ unplaced P n
 unfolding unplaced
 unplaced-place P r zero l e = absurd (omega arith)
 unplaced-place P r (suc n) l e = go (ℕ-discrete n r) (λ l′. unplaced-place P r n l′ e)

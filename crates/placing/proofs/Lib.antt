@@ -1,2 +1,5 @@
-pub mod Sound
+pub mod Going
+pub mod Marks
 pub mod Rings
+pub mod Seeking
+pub mod Sound

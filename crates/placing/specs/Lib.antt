@@ -1,1 +1,3 @@
+pub mod InTables
+pub mod Marks
 pub mod Placing

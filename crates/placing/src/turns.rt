@@ -1,0 +1,103 @@
+// The turns of a placing. Rows are looked at from the lowest on; a row that must wait is told in the mark of the row that it waits for,
+// and once that one is placed, the look goes back to the lowest row that waited for it.
+use crate::search::open_read;
+ghost use mathlib.Core.Path.{_≡_};
+ghost use mathlib.Core.List.{List};
+ghost use Prim.Native.Nat.{ℕ, _<_, _≤_};
+ghost use lib.ListN.{length, getD};
+ghost use Rattle.placing.specs.InTables.{Inside};
+ghost use Rattle.placing.specs.Marks.{waitedBy, onFrom, Going, Further};
+
+// Where a placing stands: the rows below `low` are placed or wait; `count` rows are placed.
+pub(crate) struct At {
+    low: usize,
+    count: usize,
+}
+
+// The mark of a row for which `row` waits too.
+fn waited_by(mark: u32, row: u32) -> u32
+    requires { ⌜ row < 512 ⌝ }
+    ensures { λ r. ⌜ r ≡ waitedBy mark row ⌝ }
+{
+    if mark == 0 {
+        return row + 2;
+    }
+    if mark < row + 2 {
+        return mark;
+    }
+    row + 2
+}
+
+// Where the look goes on once `row`, so marked, is placed.
+fn on_from(mark: u32, row: u32) -> u32
+    requires { ⌜ (row < 512) × (mark ≡ 1 → ⊥) ⌝ }
+    ensures { λ r. ⌜ r ≡ onFrom mark row ⌝ }
+{
+    if mark == 0 {
+        return row + 1;
+    }
+    if row + 2 < mark {
+        return row + 1;
+    }
+    mark - 2
+}
+
+// The row `low` is passed, or waits, or is placed.
+fn turn(
+    cells: &[u32],
+    runs: &[u32],
+    n: usize,
+    rows: &mut [u32],
+    marks: &mut [u32],
+    low: usize,
+    count: usize,
+) -> At
+    requires { ⌜ Inside (now cells) (now runs) n × Going (now cells) (now runs) n (now rows) (now marks) low count × (low < n) ⌝ }
+    ensures { λ r. ⌜ Going (now (cells .entry)) (now (runs .entry)) n (now (rows .exit)) (now (marks .exit)) (r .low) (r .count) × Further n low count r ⌝ }
+{
+    let mark = marks[low];
+    if mark == 1 {
+        return At {
+            low: low + 1,
+            count,
+        };
+    }
+    let on = open_read(cells, runs, marks, low, n);
+    let row = low as u32;
+    if on < n {
+        let new = waited_by(marks[on], row);
+        marks[on] = new;
+        return At {
+            low: low + 1,
+            count,
+        };
+    }
+    rows[count] = row;
+    marks[low] = 1;
+    let next = on_from(mark, row) as usize;
+    At {
+        low: next,
+        count: count + 1,
+    }
+}
+
+// Turn after turn, until all rows are looked at; how many are placed.
+pub(crate) fn place_rows(
+    cells: &[u32],
+    runs: &[u32],
+    n: usize,
+    rows: &mut [u32],
+    marks: &mut [u32],
+) -> usize
+    requires { ⌜ Inside (now cells) (now runs) n × Going (now cells) (now runs) n (now rows) (now marks) 0 0 ⌝ }
+    ensures { λ r. ⌜ Going (now (cells .entry)) (now (runs .entry)) n (now (rows .exit)) (now (marks .exit)) n r ⌝ }
+{
+    let mut low: usize = 0;
+    let mut count: usize = 0;
+    while low < n {
+        let at = turn(cells, runs, n, rows, marks, low, count);
+        low = at.low;
+        count = at.count;
+    }
+    count
+}
