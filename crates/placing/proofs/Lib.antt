@@ -3,3 +3,4 @@ pub mod Marks
 pub mod Rings
 pub mod Seeking
 pub mod Sound
+pub mod Tabled

@@ -33,7 +33,7 @@ module _ (N : Netlist) (v : valid N ≡ true) where
   abbrev count : ℕ
   count = length (N .cells)
 
-  read-below : (i j : ℕ) → i < count → mem j (readsOf N i) ≡ true → j < count
+  pub read-below : (i j : ℕ) → i < count → mem j (readsOf N i) ≡ true → j < count
   read-below i j l m = omega (arith, read-wide N v i l j m .below, length-map (N .cells) (λ (c : Cell). c .width))
 
   -- an input reads nothing

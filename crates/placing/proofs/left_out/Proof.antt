@@ -29,16 +29,16 @@ shared-slice-read-if1 : tie.Need-shared-slice-read-if1 Inv-loop μ-loop
 shared-slice-read-if1 c = search needs
 
 returns : tie.Need-returns Inv-loop μ-loop
-returns c = let l = c .before .before .before .loop in look-hit (c .before .before .before .before .args .marks .now) (l .k) (c .before .before .loop-test .taken) (c .if1 .taken) ∙ l .inv .1
+returns c = let l = c .before .before .before .loop in look-hit (c .before .before .before .before .args .marks .now) (l .k) (omega (arith, c .before .before .loop-test .taken)) (c .if1 .taken) ∙ l .inv .1
 
 loop-less : tie.Need-loop-less Inv-loop μ-loop
 loop-less c = search needs
 
 loop-again : tie.Need-loop-again Inv-loop μ-loop
-loop-again c = let l = c .before .before .before .loop in (omega arith, look-on (c .before .before .before .before .args .marks .now) (l .k) (c .before .before .loop-test .taken) (c .if1 .left) ∙ l .inv .1)
+loop-again c = let l = c .before .before .before .loop in (omega arith, look-on (c .before .before .before .before .args .marks .now) (l .k) (omega (arith, c .before .before .loop-test .taken)) (c .if1 .left) ∙ l .inv .1)
 
 returns-2 : tie.Need-returns-2 Inv-loop μ-loop
-returns-2 c = look-left _ (c .before .loop .k) (c .loop-test .left) ∙ c .before .loop .inv .1
+returns-2 c = look-left _ (c .before .loop .k) (omega (arith, c .loop-test .left)) ∙ c .before .loop .inv .1
 
 pub left-out-spec : {M : Type 1} → statement M
 left-out-spec =
