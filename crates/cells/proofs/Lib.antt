@@ -5,3 +5,6 @@ pub mod Meaning
 pub mod Linking
 pub mod Fields
 pub mod Counts
+pub mod Filling
+pub mod Places
+pub mod Outcomes

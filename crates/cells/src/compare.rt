@@ -1,0 +1,103 @@
+// Comparisons: eq, ult, slt, one bit each.
+use super::lent::least;
+use super::lent::put_bit;
+ghost use mathlib.Core.Path.{_≡_};
+ghost use mathlib.Core.Bool.{Bool};
+ghost use mathlib.Core.List.{List, [], _∷_};
+ghost use lib.Seq.{sets};
+ghost use Rattle.ground.specs.Choice.{pick};
+ghost use Rattle.trit.specs.Wide.{clash, agree, eqBit, ultBit, sltBit};
+
+// 0 against 1.
+fn clashes(a: u8, b: u8) -> bool
+    ensures { λ r. ⌜ r ≡ clash a b ⌝ }
+{
+    if a == 0 {
+        return b == 1;
+    }
+    if a == 1 {
+        return b == 0;
+    }
+    false
+}
+
+// What is told stays, where the place is known and equal; else it is X.
+fn told_at(told: u8, a: u8, b: u8) -> u8
+    ensures { λ r. ⌜ r ≡ pick (agree a b) told 2 ⌝ }
+{
+    if a == b {
+        if a < 2 {
+            return told;
+        }
+    }
+    2
+}
+
+// A clash is told at once, whatever X stands elsewhere.
+pub fn eq_bit(a: &[u8], b: &[u8]) -> u8
+    ensures { λ r. ⌜ r ≡ eqBit (now (a .entry)) (now (b .entry)) ⌝ }
+{
+    let n = least(a.len(), b.len());
+    let mut told: u8 = 1;
+    let mut i: usize = 0;
+    while i < n {
+        if clashes(a[i], b[i]) {
+            return 0;
+        }
+        told = told_at(told, a[i], b[i]);
+        i += 1;
+    }
+    told
+}
+
+pub fn ult_bit(a: &[u8], b: &[u8]) -> u8
+    ensures { λ r. ⌜ r ≡ ultBit (now (a .entry)) (now (b .entry)) ⌝ }
+{
+    let n = least(a.len(), b.len());
+    let mut below: u8 = 0;
+    let mut i: usize = 0;
+    while i < n {
+        below = trit::carry3(trit::not3(a[i]), b[i], below);
+        i += 1;
+    }
+    below
+}
+
+// The top place has a and not b, for there 1 is the lesser.
+pub fn slt_bit(a: &[u8], b: &[u8]) -> u8
+    ensures { λ r. ⌜ r ≡ sltBit (now (a .entry)) (now (b .entry)) ⌝ }
+{
+    if a.len() == 0 {
+        return 0;
+    }
+    let top = a.len() - 1;
+    let n = least(top, b.len());
+    let mut below: u8 = 0;
+    let mut i: usize = 0;
+    while i < n {
+        below = trit::carry3(trit::not3(a[i]), b[i], below);
+        i += 1;
+    }
+    if b.len() <= top {
+        return below;
+    }
+    trit::carry3(a[top], trit::not3(b[top]), below)
+}
+
+pub fn put_eq(a: &[u8], b: &[u8], out: &mut [u8])
+    ensures { λ _. ⌜ now (out .exit) ≡ sets (now (out .entry)) 0 (eqBit (now (a .entry)) (now (b .entry)) ∷ []) ⌝ }
+{
+    put_bit(eq_bit(a, b), out);
+}
+
+pub fn put_ult(a: &[u8], b: &[u8], out: &mut [u8])
+    ensures { λ _. ⌜ now (out .exit) ≡ sets (now (out .entry)) 0 (ultBit (now (a .entry)) (now (b .entry)) ∷ []) ⌝ }
+{
+    put_bit(ult_bit(a, b), out);
+}
+
+pub fn put_slt(a: &[u8], b: &[u8], out: &mut [u8])
+    ensures { λ _. ⌜ now (out .exit) ≡ sets (now (out .entry)) 0 (sltBit (now (a .entry)) (now (b .entry)) ∷ []) ⌝ }
+{
+    put_bit(slt_bit(a, b), out);
+}
