@@ -7,4 +7,5 @@ pub mod Fields
 pub mod Counts
 pub mod Filling
 pub mod Places
+pub mod Gathering
 pub mod Outcomes

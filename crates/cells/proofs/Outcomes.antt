@@ -1,9 +1,9 @@
 -- Each public function has one outcome: two that its contract allows are equal.
-use mathlib.Core.Path.{_≡_}
+use mathlib.Core.Path.{_≡_, sym, _∙_}
 use mathlib.Core.List.{List, [], _∷_}
-use Prim.Native.Nat.{ℕ, min}
-use lib.ListN.{replicate}
+use Prim.Native.Nat.{ℕ}
 use lib.Seq.{sets}
+use Rattle.ground.specs.Writes.{Put}
 use Rattle.ground.proofs.Outcome.{any-two}
 use Rattle.trit.specs.Trit.{andOf, orOf, xorOf}
 use Rattle.trit.specs.Wide.{notBits, pairs, adcBits, eqBit, ultBit, sltBit}
@@ -17,21 +17,8 @@ Puts bits = (out o p : List ℕ) → o ≡ sets out 0 bits → p ≡ sets out 0 
 one-put : (bits : List ℕ) → Puts bits
 one-put bits = any-two (λ out. sets out 0 bits)
 
-pub one-least : (a b o p : ℕ) → o ≡ min a b → p ≡ min a b → o ≡ p
-one-least a = any-two (λ b. min a b)
-
-pub one-x : (size : ℕ) → Puts (replicate size 2)
-one-x size = one-put (replicate size 2)
-
-pub one-bit : (x : ℕ) → Puts (x ∷ [])
-one-bit x = one-put (x ∷ [])
-
-module _ (a : List ℕ) where
-  pub one-copy : Puts a
-  one-copy = one-put a
-
-  pub one-not : Puts (notBits a)
-  one-not = one-put (notBits a)
+pub one-not : (a : List ℕ) → Puts (notBits a)
+one-not a = one-put (notBits a)
 
 module _ (a b : List ℕ) where
   pub one-and : Puts (pairs andOf a b)
@@ -59,13 +46,16 @@ module _ (a b : List ℕ) where
   one-slt = any-two (sltBit a) b
 
   pub one-eq-put : Puts (eqBit a b ∷ [])
-  one-eq-put = one-bit (eqBit a b)
+  one-eq-put = one-put (eqBit a b ∷ [])
 
   pub one-ult-put : Puts (ultBit a b ∷ [])
-  one-ult-put = one-bit (ultBit a b)
+  one-ult-put = one-put (ultBit a b ∷ [])
 
   pub one-slt-put : Puts (sltBit a b ∷ [])
-  one-slt-put = one-bit (sltBit a b)
+  one-slt-put = one-put (sltBit a b ∷ [])
 
 pub one-value : (kind : ℕ) (a b c : List ℕ) → Puts (kindValue kind a b c)
 one-value kind a b c = one-put (kindValue kind a b c)
+
+pub one-gather : (bits out o p : List ℕ) (n m : ℕ) → Put out 0 bits n o → Put out 0 bits m p → (n ≡ m) × (o ≡ p)
+one-gather bits out o p n m s t = (s .next ∙ sym (t .next), s .holds ∙ sym (t .holds))

@@ -1,3 +1,4 @@
 pub mod Operands
 pub mod Values
 pub mod Records
+pub mod Held

@@ -5,7 +5,7 @@ ghost use Prim.Native.Nat.{ℕ, min};
 ghost use lib.ListN.{length, replicate};
 ghost use lib.Seq.{sets};
 
-pub fn least(a: usize, b: usize) -> usize
+pub(crate) fn least(a: usize, b: usize) -> usize
     ensures { λ r. ⌜ r ≡ min a b ⌝ }
 {
     if a < b {
@@ -15,7 +15,7 @@ pub fn least(a: usize, b: usize) -> usize
 }
 
 // The bits as they are: buf and output.
-pub fn copy(a: &[u8], out: &mut [u8])
+pub(crate) fn copy(a: &[u8], out: &mut [u8])
     ensures { λ _. ⌜ now (out .exit) ≡ sets (now (out .entry)) 0 (now (a .entry)) ⌝ }
 {
     let n = least(a.len(), out.len());
@@ -27,7 +27,7 @@ pub fn copy(a: &[u8], out: &mut [u8])
 }
 
 // X, so often.
-pub fn put_x(size: usize, out: &mut [u8])
+pub(crate) fn put_x(size: usize, out: &mut [u8])
     ensures { λ _. ⌜ now (out .exit) ≡ sets (now (out .entry)) 0 (replicate size 2) ⌝ }
 {
     let n = least(size, out.len());
@@ -38,7 +38,7 @@ pub fn put_x(size: usize, out: &mut [u8])
     }
 }
 
-pub fn put_bit(x: u8, out: &mut [u8])
+pub(crate) fn put_bit(x: u8, out: &mut [u8])
     ensures { λ _. ⌜ now (out .exit) ≡ sets (now (out .entry)) 0 (x ∷ []) ⌝ }
 {
     if out.len() == 0 {

@@ -4,6 +4,7 @@
 pub mod adc;
 pub mod compare;
 pub mod gates;
-pub mod lent;
+mod lent;
 pub mod mux;
+pub mod operands;
 pub mod value;
