@@ -1,0 +1,5 @@
+// The records of a cell, written into a lent list, and the slots of its bits. It promises what `cells` says that each kind makes, every
+// lent byte included. Cells and the load list stand below it; translating above.
+mod buffer;
+mod gates;
+mod records;
