@@ -11,7 +11,7 @@ use Rattle.ground.proofs.Writes.{sets-append, wrote-length}
 use Rattle.loadlist.specs.declared.Record.{Record}
 use Rattle.loadlist.specs.Records.{listBytes, recordBytes}
 use Rattle.cells.specs.Records.{Made, made, then}
-use Rattle.recording.specs.Making.{Puts, recorded, recordedOf, Room}
+use Rattle.recording.specs.Making.{Puts, Recorded, recorded, recordedOf, Room}
 
 -- RECORDS, one behind the other
 bytes-append : (rs ss : List Record) → listBytes (rs ++ ss) ≡ listBytes rs ++ listBytes ss
@@ -52,6 +52,7 @@ pub record Left (whole : Made) (from : ℕ) (list₀ outs₀ : List ℕ) (m : Ma
   pub lists : sets list (8 * k) (listBytes (m .records)) ≡ sets list₀ (8 * from) (listBytes (whole .records))
   pub bits : sets outs at (m .outs) ≡ sets outs₀ 0 (whole .outs)
   pub count : k + length (m .records) ≡ from + length (whole .records)
+  pub since : from ≤ k
   pub slots : k + length (m .records) ≤ 8192
   pub bytes : 8 * (k + length (m .records)) ≤ length list
   pub room : at + length (m .outs) ≤ length outs
@@ -59,7 +60,7 @@ pub record Left (whole : Made) (from : ℕ) (list₀ outs₀ : List ℕ) (m : Ma
   pub wide : length outs ≡ length outs₀
 
 pub left-whole : {m : Made} {k : ℕ} {list outs : List ℕ} → Room m k list outs → Left m k list outs m k 0 list outs
-left-whole r = record { lists = refl; bits = refl; count = refl; slots = r .slots; bytes = r .bytes; room = omega (arith, r .bits); long = refl; wide = refl }
+left-whole r = record { lists = refl; bits = refl; count = refl; since = omega arith; slots = r .slots; bytes = r .bytes; room = omega (arith, r .bits); long = refl; wide = refl }
 
 -- `all` is these records, with these slots of bits, before what is made later
 pub record Step (all : Made) (rs : List Record) (os : List ℕ) (m : Made) : Type 0 where
@@ -95,6 +96,7 @@ module _ {whole all m : Made} {from : ℕ} {list₀ outs₀ : List ℕ} {k at : 
               ap₂ (λ x j. sets x j (m .outs)) (w .is) ei ∙ sym (sets-append outs at os (m .outs))
               ∙ ap (λ (x : Made). sets outs at (x .outs)) (sym (s .is)) ∙ l .bits;
           count = omega (arith, l .count);
+          since = omega (arith, l .since);
           slots = omega (arith, l .slots);
           bytes = omega (arith, l .bytes);
           room = omega (arith, l .room);
@@ -123,5 +125,19 @@ module _ {whole : Made} {from : ℕ} {list₀ outs₀ : List ℕ} {k at : ℕ} {
       let c : n ≡ length (whole .records) = omega (arith, a .count) in
       rw (c, ← a .lists, ← a .bits)
 
-  pub left-from : {m : Made} → Left whole from list₀ outs₀ m k at list outs → m ≡ made [] [] → from ≤ k
-  left-from {m} l d = let a : Left whole from list₀ outs₀ (made [] []) k at list outs = rw d at l in omega (arith, a .count)
+-- what is left is made by a call
+module _ {whole : Made} {from : ℕ} {list₀ outs₀ : List ℕ} {k : ℕ} {list outs : List ℕ} where
+  pub left-room : {m : Made} → Left whole from list₀ outs₀ m k 0 list outs → Room m k list outs
+  left-room l = record { slots = l .slots; bytes = l .bytes; bits = omega (arith, l .room) }
+
+  pub left-called : {m : Made} → Left whole from list₀ outs₀ m k 0 list outs → {r n : ℕ} {new row : List ℕ} → recorded r new row ≡ recordedOf m k list outs
+      → from + n ≡ k + r → recorded n new row ≡ recordedOf whole from list₀ outs₀
+  left-called {m} l {r} {n} {new} {row} e f =
+      let a : r ≡ length (m .records) = ap (λ (x : Recorded). x .count) e in
+      let c : n ≡ length (whole .records) = omega (arith, l .count) in
+      let b : new ≡ sets list (8 * k) (listBytes (m .records)) = ap (λ (x : Recorded). x .list) e in
+      let d : row ≡ sets outs 0 (m .outs) = ap (λ (x : Recorded). x .outs) e in
+      rw (c, b, d, l .lists, l .bits)
+
+  pub left-small : {m : Made} → Left whole from list₀ outs₀ m k 0 list outs → {r : ℕ} {new row : List ℕ} → recorded r new row ≡ recordedOf m k list outs → r ≤ 8192
+  left-small {m} l {r} e = let a : r ≡ length (m .records) = ap (λ (x : Recorded). x .count) e in omega (arith, l .slots)

@@ -11,13 +11,13 @@ use Rattle.recording.proofs.buffer.make_buf.Statement.{statement}
 use Rattle.recording.proofs.buffer.make_buf.Tie as tie
 
 abbrev Inv-loop : tie.InvT-loop
-Inv-loop k a list outs₀ i₀ outs i = (i ≤ length a) × Left (made [] a) k list outs₀ (made [] (drop i a)) k i list outs
+Inv-loop k a list outs₀ i₀ outs i = Left (made [] a) k list outs₀ (made [] (drop i a)) k i list outs
 
 abbrev μ-loop : tie.MeasureT-loop
 μ-loop k a list outs₀ i₀ outs i = length a - i
 
 loop-holds : tie.Need-loop-holds Inv-loop μ-loop
-loop-holds c = (omega arith, left-whole (c .pre))
+loop-holds c = left-whole (c .pre)
 
 mul-outs : tie.Need-mul-outs Inv-loop μ-loop
 mul-outs c = search needs
@@ -29,7 +29,7 @@ mul-outs-2 : tie.Need-mul-outs-2 Inv-loop μ-loop
 mul-outs-2 c = search needs
 
 slice-write-outs : tie.Need-slice-write-outs Inv-loop μ-loop
-slice-write-outs c = let r = step-room (buf-on (c .before .before .before .args .a .now) (c .before .before .loop .i) (omega arith)) (c .before .before .loop .inv .1) in omega (arith, r .2)
+slice-write-outs c = let r = step-room (buf-on (c .before .before .before .args .a .now) (c .before .before .loop .i) (omega arith)) (c .before .before .loop .inv) in omega (arith, r .2)
 
 add-i : tie.Need-add-i Inv-loop μ-loop
 add-i c = search needs
@@ -38,13 +38,13 @@ loop-less : tie.Need-loop-less Inv-loop μ-loop
 loop-less c = search needs
 
 loop-again : tie.Need-loop-again Inv-loop μ-loop
-loop-again c = (omega arith, left-bit (buf-on (c .before .before .before .args .a .now) (c .before .before .loop .i) (omega arith)) (c .before .before .loop .inv .1) (puts-nothing _ _) (omega arith) refl)
+loop-again c = left-bit (buf-on (c .before .before .before .args .a .now) (c .before .before .loop .i) (omega arith)) (c .before .before .loop .inv) (puts-nothing _ _) (omega arith) refl
 
 same-length : tie.Need-same-length Inv-loop μ-loop
-same-length c = c .before .loop .inv .1 .wide
+same-length c = c .before .loop .inv .wide
 
 returns : tie.Need-returns Inv-loop μ-loop
-returns c = left-none (buf-end (c .before .before .args .a .now) (c .before .loop .i) (omega arith)) (c .before .loop .inv .1) (omega arith)
+returns c = left-none (buf-end (c .before .before .args .a .now) (c .before .loop .i) (omega arith)) (c .before .loop .inv) (omega arith)
 
 pub make-buf-spec : {M : Type 1} → statement M
 make-buf-spec =

@@ -4,13 +4,13 @@ use mathlib.Core.Path.{refl}
 use lib.ListN.{length, drop}
 use Rattle.cells.specs.Records.{gateMade}
 use Rattle.recording.proofs.Bits.{gate-on, gate-end}
-use Rattle.recording.proofs.Left.{Left, left-whole, step-room, left-bit, left-none, left-from}
+use Rattle.recording.proofs.Left.{Left, left-whole, step-room, left-bit, left-none}
 use borrow.Author.Needs.{needs}
 use Rattle.recording.proofs.gates.make_gate.Statement.{statement}
 use Rattle.recording.proofs.gates.make_gate.Tie as tie
 
 abbrev Inv-loop : tie.InvT-loop
-Inv-loop op k a b list₀ outs₀ n next₀ i₀ list outs next i = (i ≤ n) × Left (gateMade op k a b) k list₀ outs₀ (gateMade op next (drop i a) (drop i b)) next i list outs
+Inv-loop op k a b list₀ outs₀ n next₀ i₀ list outs next i = Left (gateMade op k a b) k list₀ outs₀ (gateMade op next (drop i a) (drop i b)) next i list outs
 
 abbrev μ-loop : tie.MeasureT-loop
 μ-loop op k a b list₀ outs₀ n next₀ i₀ list outs next i = n - i
@@ -19,7 +19,7 @@ shared-requires : tie.Need-shared-requires Inv-loop μ-loop
 shared-requires c κs = search needs
 
 loop-holds : tie.Need-loop-holds Inv-loop μ-loop
-loop-holds c = (omega arith, left-whole (c .before .before .before .before .before .pre))
+loop-holds c = left-whole (c .before .before .before .before .before .pre)
 
 mul-put : tie.Need-mul-put Inv-loop μ-loop
 mul-put c = search needs
@@ -34,16 +34,16 @@ shared-slice-read-put-2 : tie.Need-shared-slice-read-put-2 Inv-loop μ-loop
 shared-slice-read-put-2 c = search needs
 
 put-requires : tie.Need-put-requires Inv-loop μ-loop
-put-requires c κs = let r = step-room (gate-on (c .before .before .before .before .before .before .before .before .before .before .args .a .now) (c .before .before .before .before .before .before .before .before .before .before .args .b .now) (c .before .before .before .before .loop .i) (c .before .before .before .before .before .before .before .before .before .before .args .op) (c .before .before .before .before .loop .next) (omega arith)) (c .before .before .before .before .loop .inv .1) in (omega (arith, r .0), omega (arith, r .1))
+put-requires c κs = let r = step-room (gate-on (c .before .before .before .before .before .before .before .before .before .before .args .a .now) (c .before .before .before .before .before .before .before .before .before .before .args .b .now) (c .before .before .before .before .loop .i) (c .before .before .before .before .loop .next) (omega arith) (c .before .before .before .before .before .before .before .before .before .before .args .op)) (c .before .before .before .before .loop .inv) in (omega (arith, r .0), omega (arith, r .1))
 
 mul-outs : tie.Need-mul-outs Inv-loop μ-loop
 mul-outs c = search needs
 
 slice-write-outs : tie.Need-slice-write-outs Inv-loop μ-loop
-slice-write-outs c = let r = step-room (gate-on (c .before .before .before .before .before .before .before .before .before .before .before .before .before .args .a .now) (c .before .before .before .before .before .before .before .before .before .before .before .before .before .args .b .now) (c .before .before .before .before .before .before .before .loop .i) (c .before .before .before .before .before .before .before .before .before .before .before .before .before .args .op) (c .before .before .before .before .before .before .before .loop .next) (omega arith)) (c .before .before .before .before .before .before .before .loop .inv .1) in omega (arith, r .2)
+slice-write-outs c = let r = step-room (gate-on (c .before .before .before .before .before .before .before .before .before .before .before .before .before .args .a .now) (c .before .before .before .before .before .before .before .before .before .before .before .before .before .args .b .now) (c .before .before .before .before .before .before .before .loop .i) (c .before .before .before .before .before .before .before .loop .next) (omega arith) (c .before .before .before .before .before .before .before .before .before .before .before .before .before .args .op)) (c .before .before .before .before .before .before .before .loop .inv) in omega (arith, r .2)
 
 add-next : tie.Need-add-next Inv-loop μ-loop
-add-next c = let r = step-room (gate-on (c .before .before .before .before .before .before .before .before .before .before .before .before .before .args .a .now) (c .before .before .before .before .before .before .before .before .before .before .before .before .before .args .b .now) (c .before .before .before .before .before .before .before .loop .i) (c .before .before .before .before .before .before .before .before .before .before .before .before .before .args .op) (c .before .before .before .before .before .before .before .loop .next) (omega arith)) (c .before .before .before .before .before .before .before .loop .inv .1) in omega (arith, r .0)
+add-next c = let r = step-room (gate-on (c .before .before .before .before .before .before .before .before .before .before .before .before .before .args .a .now) (c .before .before .before .before .before .before .before .before .before .before .before .before .before .args .b .now) (c .before .before .before .before .before .before .before .loop .i) (c .before .before .before .before .before .before .before .loop .next) (omega arith) (c .before .before .before .before .before .before .before .before .before .before .before .before .before .args .op)) (c .before .before .before .before .before .before .before .loop .inv) in omega (arith, r .0)
 
 add-i : tie.Need-add-i Inv-loop μ-loop
 add-i c = search needs
@@ -52,19 +52,19 @@ loop-less : tie.Need-loop-less Inv-loop μ-loop
 loop-less c = search needs
 
 loop-again : tie.Need-loop-again Inv-loop μ-loop
-loop-again c = (omega arith, left-bit (gate-on (c .before .before .before .before .before .before .before .before .before .before .before .before .before .args .a .now) (c .before .before .before .before .before .before .before .before .before .before .before .before .before .args .b .now) (c .before .before .before .before .before .before .before .loop .i) (c .before .before .before .before .before .before .before .before .before .before .before .before .before .args .op) (c .before .before .before .before .before .before .before .loop .next) (omega arith)) (c .before .before .before .before .before .before .before .loop .inv .1) (c .before .before .put .ensures .1) refl (c .before .before .put .ensures .0))
+loop-again c = left-bit (gate-on (c .before .before .before .before .before .before .before .before .before .before .before .before .before .args .a .now) (c .before .before .before .before .before .before .before .before .before .before .before .before .before .args .b .now) (c .before .before .before .before .before .before .before .loop .i) (c .before .before .before .before .before .before .before .loop .next) (omega arith) (c .before .before .before .before .before .before .before .before .before .before .before .before .before .args .op)) (c .before .before .before .before .before .before .before .loop .inv) (c .before .before .put .ensures .1) refl (c .before .before .put .ensures .0)
 
 sub-result : tie.Need-sub-result Inv-loop μ-loop
-sub-result c = left-from (c .before .loop .inv .1) (gate-end (c .before .before .before .before .before .before .before .args .a .now) (c .before .before .before .before .before .before .before .args .b .now) (c .before .loop .i) (c .before .before .before .before .before .before .before .args .op) (c .before .loop .next) (omega arith))
+sub-result c = omega (arith, c .before .loop .inv .since)
 
 same-length : tie.Need-same-length Inv-loop μ-loop
-same-length c = c .before .loop .inv .1 .long
+same-length c = c .before .loop .inv .long
 
 same-length-2 : tie.Need-same-length-2 Inv-loop μ-loop
-same-length-2 c = c .before .loop .inv .1 .wide
+same-length-2 c = c .before .loop .inv .wide
 
 returns : tie.Need-returns Inv-loop μ-loop
-returns c = left-none (gate-end (c .before .before .before .before .before .before .before .args .a .now) (c .before .before .before .before .before .before .before .args .b .now) (c .before .loop .i) (c .before .before .before .before .before .before .before .args .op) (c .before .loop .next) (omega arith)) (c .before .loop .inv .1) refl
+returns c = left-none (gate-end (c .before .before .before .before .before .before .before .args .a .now) (c .before .before .before .before .before .before .before .args .b .now) (c .before .loop .i) (c .before .loop .next) (omega arith) (c .before .before .before .before .before .before .before .args .op)) (c .before .loop .inv) refl
 
 pub make-gate-spec : {M : Type 1} → statement M
 make-gate-spec =

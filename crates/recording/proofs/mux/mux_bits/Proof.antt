@@ -1,0 +1,91 @@
+use Prim.Native.Nat.{_-_}
+use native.Mathlib.Omega.{arith}
+use mathlib.Core.Path.{refl}
+use lib.ListN.{drop}
+use Rattle.cells.specs.Records.{muxFrom}
+use Rattle.recording.proofs.Bits.{mux-on, mux-end}
+use Rattle.recording.proofs.Left.{Left, left-whole, step-room, left-bit, left-none}
+use borrow.Author.Needs.{needs}
+use Rattle.recording.proofs.mux.mux_bits.Statement.{statement}
+use Rattle.recording.proofs.mux.mux_bits.Tie as tie
+
+abbrev Inv-loop : tie.InvT-loop
+Inv-loop k s n x a b list₀ outs₀ bits next₀ i₀ list outs next i = Left (muxFrom s n x k a b) k list₀ outs₀ (muxFrom s n x next (drop i a) (drop i b)) next i list outs
+
+abbrev μ-loop : tie.MeasureT-loop
+μ-loop k s n x a b list₀ outs₀ bits next₀ i₀ list outs next i = bits - i
+
+shared-requires : tie.Need-shared-requires Inv-loop μ-loop
+shared-requires c κs = search needs
+
+loop-holds : tie.Need-loop-holds Inv-loop μ-loop
+loop-holds c = left-whole (c .before .before .before .before .before .pre)
+
+mul-put-chosen : tie.Need-mul-put-chosen Inv-loop μ-loop
+mul-put-chosen c = search needs
+
+shared-slice-read-put-chosen : tie.Need-shared-slice-read-put-chosen Inv-loop μ-loop
+shared-slice-read-put-chosen c = search needs
+
+mul-put-chosen-2 : tie.Need-mul-put-chosen-2 Inv-loop μ-loop
+mul-put-chosen-2 c = search needs
+
+shared-slice-read-put-chosen-2 : tie.Need-shared-slice-read-put-chosen-2 Inv-loop μ-loop
+shared-slice-read-put-chosen-2 c = search needs
+
+put-chosen-requires : tie.Need-put-chosen-requires Inv-loop μ-loop
+put-chosen-requires c κs = let r = step-room (mux-on (c .before .before .before .before .before .before .before .before .before .before .args .a .now) (c .before .before .before .before .before .before .before .before .before .before .args .b .now) (c .before .before .before .before .loop .i) (c .before .before .before .before .loop .next) (omega arith) (c .before .before .before .before .before .before .before .before .before .before .args .s) (c .before .before .before .before .before .before .before .before .before .before .args .n) (c .before .before .before .before .before .before .before .before .before .before .args .x)) (c .before .before .before .before .loop .inv) in (r .0, r .1)
+
+mul-outs : tie.Need-mul-outs Inv-loop μ-loop
+mul-outs c = search needs
+
+slice-write-outs : tie.Need-slice-write-outs Inv-loop μ-loop
+slice-write-outs c = let r = step-room (mux-on (c .before .before .before .before .before .before .before .before .before .before .before .before .before .args .a .now) (c .before .before .before .before .before .before .before .before .before .before .before .before .before .args .b .now) (c .before .before .before .before .before .before .before .loop .i) (c .before .before .before .before .before .before .before .loop .next) (omega arith) (c .before .before .before .before .before .before .before .before .before .before .before .before .before .args .s) (c .before .before .before .before .before .before .before .before .before .before .before .before .before .args .n) (c .before .before .before .before .before .before .before .before .before .before .before .before .before .args .x)) (c .before .before .before .before .before .before .before .loop .inv) in omega (arith, r .2)
+
+add-next : tie.Need-add-next Inv-loop μ-loop
+add-next c = let r = step-room (mux-on (c .before .before .before .before .before .before .before .before .before .before .before .before .before .args .a .now) (c .before .before .before .before .before .before .before .before .before .before .before .before .before .args .b .now) (c .before .before .before .before .before .before .before .loop .i) (c .before .before .before .before .before .before .before .loop .next) (omega arith) (c .before .before .before .before .before .before .before .before .before .before .before .before .before .args .s) (c .before .before .before .before .before .before .before .before .before .before .before .before .before .args .n) (c .before .before .before .before .before .before .before .before .before .before .before .before .before .args .x)) (c .before .before .before .before .before .before .before .loop .inv) in omega (arith, r .0)
+
+add-i : tie.Need-add-i Inv-loop μ-loop
+add-i c = search needs
+
+loop-less : tie.Need-loop-less Inv-loop μ-loop
+loop-less c = search needs
+
+loop-again : tie.Need-loop-again Inv-loop μ-loop
+loop-again c = left-bit (mux-on (c .before .before .before .before .before .before .before .before .before .before .before .before .before .args .a .now) (c .before .before .before .before .before .before .before .before .before .before .before .before .before .args .b .now) (c .before .before .before .before .before .before .before .loop .i) (c .before .before .before .before .before .before .before .loop .next) (omega arith) (c .before .before .before .before .before .before .before .before .before .before .before .before .before .args .s) (c .before .before .before .before .before .before .before .before .before .before .before .before .before .args .n) (c .before .before .before .before .before .before .before .before .before .before .before .before .before .args .x)) (c .before .before .before .before .before .before .before .loop .inv) (c .before .before .put-chosen .ensures .1) refl (c .before .before .put-chosen .ensures .0)
+
+sub-result : tie.Need-sub-result Inv-loop μ-loop
+sub-result c = omega (arith, c .before .loop .inv .since)
+
+same-length : tie.Need-same-length Inv-loop μ-loop
+same-length c = c .before .loop .inv .long
+
+same-length-2 : tie.Need-same-length-2 Inv-loop μ-loop
+same-length-2 c = c .before .loop .inv .wide
+
+returns : tie.Need-returns Inv-loop μ-loop
+returns c = left-none (mux-end (c .before .before .before .before .before .before .before .args .a .now) (c .before .before .before .before .before .before .before .args .b .now) (c .before .loop .i) (c .before .loop .next) (omega arith) (c .before .before .before .before .before .before .before .args .s) (c .before .before .before .before .before .before .before .args .n) (c .before .before .before .before .before .before .before .args .x)) (c .before .loop .inv) refl
+
+pub mux-bits-spec : {M : Type 1} → statement M
+mux-bits-spec =
+    tie.close
+    (tie.spec
+    Inv-loop
+    μ-loop
+    shared-requires
+    loop-holds
+    mul-put-chosen
+    shared-slice-read-put-chosen
+    mul-put-chosen-2
+    shared-slice-read-put-chosen-2
+    put-chosen-requires
+    mul-outs
+    slice-write-outs
+    add-next
+    add-i
+    loop-less
+    loop-again
+    sub-result
+    same-length
+    same-length-2
+    returns)
