@@ -1,5 +1,7 @@
 // The C library: the functions of the crates below for callers in C and Rust. A text is lent as a pointer and a length; an answer
 // comes back by value, with refusal number 0 where nothing is refused. It promises what the functions below promise.
+use checking::check_tables;
+use checking::lookup_io;
 use ground::Place;
 use ground::Refusal;
 use lexis::Reader;
@@ -7,6 +9,12 @@ use lexis::Step;
 use lexis::Whole;
 use lexis::classes::classes;
 use lexis::scan::whole;
+use naming::Named;
+use naming::full_name;
+use netlist::Checked;
+use netlist::Found;
+use printing::Printed;
+use printing::print_text;
 use reading::Read;
 use reading::read_text;
 ghost use mathlib.Core.Path.{_≡_};
@@ -14,9 +22,13 @@ ghost use Prim.Native.Nat.{_+_, _≤_};
 ghost use lib.ListN.{length};
 ghost use Rattle.lexis.specs.Bytes.{table};
 ghost use Rattle.lexis.specs.Whole.{wholeOf};
+ghost use Rattle.netlist.specs.Good.{checkOf, lookupOf};
 ghost use Rattle.reading.specs.Outcome.{readOf};
+ghost use Rattle.printing.specs.Outcome.{printOf};
+ghost use Rattle.naming.specs.Names.{nameOf};
 ghost use Rattle.grackleivy.specs.Told.{toldOf, told, counted, refusedAt, movedBy, tokensFrom, tokensOf};
 ghost use Rattle.grackleivy.specs.Seen.{toldRead, seen, seenOf};
+ghost use Rattle.grackleivy.specs.Tables.{toldCheck, wroteOf, toldPrint, toldName, filled, printedOf, namedOf, padOf, toldPad};
 
 // A refusal number with its place; 0 and 0 where nothing is refused.
 #[repr(C)]
@@ -29,6 +41,23 @@ pub struct Told {
 #[repr(C)]
 pub struct Counted {
     pub tokens: u64,
+    pub number: u32,
+    pub place: u64,
+}
+
+// How many bytes of the room an answer takes, or why it is refused.
+#[repr(C)]
+pub struct Wrote {
+    pub length: u64,
+    pub number: u32,
+    pub place: u64,
+}
+
+// The I/O row of an asked name and its width, or why there is none.
+#[repr(C)]
+pub struct Pad {
+    pub row: u64,
+    pub width: u32,
     pub number: u32,
     pub place: u64,
 }
@@ -166,4 +195,125 @@ pub extern "C" fn grackle_read(
     ensures { λ r. ⌜ seen r (now (rows .exit)) (now (strings .exit)) (now (trits .exit)) (now (work .exit)) ≡ seenOf (readOf (now (text .entry)) (now (rows .entry)) (now (strings .entry)) (now (trits .entry)) (now (work .entry))) ⌝ }
 {
     tell_read(read_text(text, rows, strings, trits, work))
+}
+
+fn tell_check(r: Checked) -> Told
+    ensures { λ t. ⌜ t ≡ toldCheck r ⌝ }
+{
+    match r {
+        Checked::Good => accepted(),
+        Checked::Refused(g) => told_by(g),
+    }
+}
+
+// The check of three lent tables: refusal 1 or 15.
+#[no_mangle]
+pub extern "C" fn grackle_check(rows: &[u32], strings: &[u8], trits: &[u8]) -> Told
+    ensures { λ r. ⌜ r ≡ toldCheck (checkOf (now (rows .entry)) (now (strings .entry)) (now (trits .entry))) ⌝ }
+{
+    tell_check(check_tables(rows, strings, trits))
+}
+
+fn in_room(length: usize) -> Wrote
+    ensures { λ r. ⌜ r ≡ wroteOf length 0 0 ⌝ }
+{
+    Wrote {
+        length: length as u64,
+        number: 0,
+        place: 0,
+    }
+}
+
+fn not_written(g: Refusal) -> Wrote
+    ensures { λ r. ⌜ r ≡ wroteOf 0 (g .number) (g .place .at) ⌝ }
+{
+    Wrote {
+        length: 0,
+        number: g.number as u32,
+        place: g.place.at as u64,
+    }
+}
+
+fn tell_print(r: Printed) -> Wrote
+    ensures { λ t. ⌜ t ≡ toldPrint r ⌝ }
+{
+    match r {
+        Printed::Length(n) => in_room(n),
+        Printed::Refused(g) => not_written(g),
+    }
+}
+
+// The canonical text of the netlist in three lent tables, printed into lent room: refusal 1, 15 or 24.
+#[no_mangle]
+pub extern "C" fn grackle_print(
+    rows: &[u32],
+    strings: &[u8],
+    trits: &[u8],
+    room: &mut [u8],
+) -> Wrote
+    ensures { λ r. ⌜ filled r (now (room .exit)) ≡ printedOf (printOf (now (rows .entry)) (now (strings .entry)) (now (trits .entry)) (now (room .entry))) ⌝ }
+{
+    tell_print(print_text(rows, strings, trits, room))
+}
+
+fn tell_name(r: Named) -> Wrote
+    ensures { λ t. ⌜ t ≡ toldName r ⌝ }
+{
+    match r {
+        Named::Length(n) => in_room(n),
+        Named::Refused(g) => not_written(g),
+    }
+}
+
+// The full name of the ident in a row of three lent tables, written into lent room: refusal 1, 15, 16 or 24.
+#[no_mangle]
+pub extern "C" fn grackle_name(
+    rows: &[u32],
+    strings: &[u8],
+    trits: &[u8],
+    row: usize,
+    room: &mut [u8],
+) -> Wrote
+    ensures { λ r. ⌜ filled r (now (room .exit)) ≡ namedOf (nameOf (now (rows .entry)) (now (strings .entry)) (now (trits .entry)) row (now (room .entry))) ⌝ }
+{
+    tell_name(full_name(rows, strings, trits, row, room))
+}
+
+fn pad_at(row: usize, width: u32) -> Pad
+    ensures { λ r. ⌜ r ≡ padOf row width 0 0 ⌝ }
+{
+    Pad {
+        row: row as u64,
+        width,
+        number: 0,
+        place: 0,
+    }
+}
+
+fn no_pad(g: Refusal) -> Pad
+    ensures { λ r. ⌜ r ≡ padOf 0 0 (g .number) (g .place .at) ⌝ }
+{
+    Pad {
+        row: 0,
+        width: 0,
+        number: g.number as u32,
+        place: g.place.at as u64,
+    }
+}
+
+fn tell_pad(r: Found) -> Pad
+    ensures { λ t. ⌜ t ≡ toldPad r ⌝ }
+{
+    match r {
+        Found::Row(row, width) => pad_at(row, width),
+        Found::Refused(g) => no_pad(g),
+    }
+}
+
+// The first I/O row of three lent tables that has the name: refusal 1, 15 or 18.
+#[no_mangle]
+pub extern "C" fn grackle_pad(rows: &[u32], strings: &[u8], trits: &[u8], name: &[u8]) -> Pad
+    ensures { λ r. ⌜ r ≡ toldPad (lookupOf (now (rows .entry)) (now (strings .entry)) (now (trits .entry)) (now (name .entry))) ⌝ }
+{
+    tell_pad(lookup_io(rows, strings, trits, name))
 }
