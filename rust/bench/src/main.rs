@@ -3,6 +3,7 @@
 #![forbid(unsafe_code)]
 
 mod read;
+mod tables;
 
 use std::time::{Duration, Instant};
 
@@ -73,6 +74,7 @@ fn lines() -> Vec<Line> {
         line("scan + tokens", library_tokens, reference_tokens, Limit::Always(1.3)),
     ];
     lines.extend(read::lines());
+    lines.extend(tables::lines());
     lines
 }
 
@@ -114,6 +116,13 @@ fn only(name: &str, kib: usize, calls: u32) {
         "reference-read-own" => (read::reference_kept(), bench::full_netlist),
         "library-alike" => (read::library(), bench::alike_netlist),
         "reference-alike" => (read::reference(), bench::alike_netlist),
+        "library-check" => (tables::library_check(), bench::full_netlist),
+        "reference-check" => (tables::reference_check(), bench::full_netlist),
+        "library-check-alike" => (tables::library_check(), bench::alike_netlist),
+        "reference-check-alike" => (tables::reference_check(), bench::alike_netlist),
+        "library-print" => (tables::library_print(), bench::full_netlist),
+        "reference-print" => (tables::reference_print(), bench::full_netlist),
+        "reference-print-own" => (tables::reference_print_kept(), bench::full_netlist),
         _ => panic!("no function has the name {name}"),
     };
     timed(&mut work, &text(kib << 10, kib as u64), calls);

@@ -1,11 +1,13 @@
-//! Grackleivy's proved text layer for Rust programs.
+//! Grackleivy's proved reader, check and printer for Rust programs.
 //!
 //! The functions of `libgrackleivy.a` ask nothing of their caller but a pointer and a length that belong together, which a slice
 //! always gives. So the functions here are safe for every slice.
 
 mod read;
+mod tables;
 
 pub use read::{read, ROWS, STRINGS, TRITS, WORK};
+pub use tables::{check, name, pad, print, Pad};
 
 /// Why a text is refused: the number of document 01 and the place, a byte of the text counted from 0.
 #[derive(Clone, Copy, Debug, PartialEq, Eq)]

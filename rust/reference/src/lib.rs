@@ -13,7 +13,7 @@ mod examples;
 pub mod lines;
 pub mod reading;
 
-pub use reading::{read, read_into, read_into_lent, Tables, Work};
+pub use reading::{check, print_by_buffer, print_into, read, read_into, read_into_lent, Tables, Work};
 
 /// The longest text, in bytes.
 pub const LONGEST: usize = 65_536;

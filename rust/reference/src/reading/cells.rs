@@ -8,7 +8,7 @@ use crate::{refusal, Kind, Refusal};
 
 /// The keywords, numbered as the layout numbers kinds.
 #[derive(Clone, Copy, Debug, PartialEq, Eq)]
-enum Keyword {
+pub(super) enum Keyword {
     Input = 1,
     Output,
     Buf,
@@ -44,11 +44,17 @@ impl Keyword {
         })
     }
 
-    fn has_name(self) -> bool {
+    /// The keyword with this number in tables.
+    pub(super) fn numbered(number: u32) -> Option<Keyword> {
+        let all = [Input, Output, Buf, Not, And, Or, Xor, Mux, Adc, Eq, Ult, Slt];
+        all.get((number as usize).wrapping_sub(1)).copied()
+    }
+
+    pub(super) fn has_name(self) -> bool {
         matches!(self, Input | Output)
     }
 
-    fn operands(self) -> usize {
+    pub(super) fn operands(self) -> usize {
         match self {
             Input => 0,
             Output | Buf | Not => 1,
@@ -58,7 +64,7 @@ impl Keyword {
     }
 
     /// The keyword's rule on the cell's width `w` and those of its operands, each of which is sound by itself.
-    fn allows(self, w: u64, [a, b, c]: [u64; 3]) -> bool {
+    pub(super) fn allows(self, w: u64, [a, b, c]: [u64; 3]) -> bool {
         match self {
             Input | Output => true,
             Buf | Not => a == w,

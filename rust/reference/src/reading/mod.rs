@@ -5,16 +5,20 @@
 
 mod canonical;
 mod cells;
+mod checking;
 #[cfg(test)]
 mod examples;
 mod full_name;
 mod meta;
 mod names;
 mod operands;
+mod printing;
 mod tables;
 
 pub use canonical::canonical;
+pub use checking::check;
 pub use full_name::full_name;
+pub use printing::{print_by_buffer, print_into};
 pub use tables::{Tables, ROWS, STRINGS, TRITS};
 
 use crate::{refusal, whole, Kind, Reader, Refusal, Token, LARGEST};

@@ -1,7 +1,8 @@
 //! Tables that are nearly good: `crates/alterings/stdin` and the answers that the program there is held to.
 //!
 //! Each case gives a text, the places altered in its tables, and whether the documents call them good then; if not, they are refused 15
-//! at 0. The plain reader has to agree: tables are good exactly if what they show, read again, is laid out as they are.
+//! at 0. The plain reader has to agree: tables are good exactly if what they show, read again, is laid out as they are. So has the plain
+//! check.
 //! `alterings stdin` prints the cases, `alterings stdout` the answers.
 
 #![forbid(unsafe_code)]
@@ -13,7 +14,7 @@ mod rules;
 
 use case::Case;
 use reference::reading::canonical;
-use reference::{lines, read, Tables};
+use reference::{check, lines, read, Tables};
 use std::collections::HashSet;
 use std::io::Write;
 use std::panic::{catch_unwind, set_hook, take_hook};
@@ -66,6 +67,9 @@ fn main() -> std::io::Result<()> {
         let fault = match altered(&case.line) {
             Err(fault) => Some(fault),
             Ok(tables) if good(&tables) != case.good => Some(format!("the documents say: {}", told(&case))),
+            Ok(tables) if check(&tables.rows, &tables.strings, &tables.trits).is_ok() != case.good => {
+                Some(format!("the plain check differs; the documents say: {}", told(&case)))
+            }
             Ok(_) => None,
         };
         if let Some(fault) = fault {
