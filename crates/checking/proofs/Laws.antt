@@ -67,7 +67,7 @@ pub next-row : (w i : ℕ) (rows : List ℕ) → i * w + w ≡ (i + 1) * w → d
 next-row w i rows e = rest-rest rows (i * w) w ∙ ap (λ (k : ℕ). drop k rows) e
 
 module _ (S : List ℕ) (n i : ℕ) (rows : List ℕ) (h : i < n) where
-  ios-cons : ioNamesIn S (n - i) (drop (i * 3) rows) ≡ ioName S (drop (i * 3) rows) ∷ ioNamesIn S (n - (i + 1)) (drop ((i + 1) * 3) rows)
+  pub ios-cons : ioNamesIn S (n - i) (drop (i * 3) rows) ≡ ioName S (drop (i * 3) rows) ∷ ioNamesIn S (n - (i + 1)) (drop ((i + 1) * 3) rows)
   unfolding ioNamesIn
   ios-cons = let m : n - i ≡ suc (n - (i + 1)) = omega arith in rw (m, ← next-row 3 i rows (omega arith))
 
@@ -97,11 +97,11 @@ unfolding distinct ioNamesIn
 io-all S n i rows h = let m : n - i ≡ 0 = omega arith in rw m
 
 module _ (S : List ℕ) (kind n i : ℕ) (rows : List ℕ) (h : i < n) where
-  cells-same : eqb (word (drop (i * 9) rows) 0) kind ≡ true → cellNamesIn S kind (n - i) (drop (i * 9) rows) ≡ cellName S (drop (i * 9) rows) ∷ cellNamesIn S kind (n - (i + 1)) (drop ((i + 1) * 9) rows)
+  pub cells-same : eqb (word (drop (i * 9) rows) 0) kind ≡ true → cellNamesIn S kind (n - i) (drop (i * 9) rows) ≡ cellName S (drop (i * 9) rows) ∷ cellNamesIn S kind (n - (i + 1)) (drop ((i + 1) * 9) rows)
   unfolding cellNamesIn
   cells-same e = let m : n - i ≡ suc (n - (i + 1)) = omega arith in rw (m, ← next-row 9 i rows (omega arith)) (rw (e, cellNamesIn))
 
-  cells-other : eqb (word (drop (i * 9) rows) 0) kind ≡ false → cellNamesIn S kind (n - i) (drop (i * 9) rows) ≡ cellNamesIn S kind (n - (i + 1)) (drop ((i + 1) * 9) rows)
+  pub cells-other : eqb (word (drop (i * 9) rows) 0) kind ≡ false → cellNamesIn S kind (n - i) (drop (i * 9) rows) ≡ cellNamesIn S kind (n - (i + 1)) (drop ((i + 1) * 9) rows)
   unfolding cellNamesIn
   cells-other e = let m : n - i ≡ suc (n - (i + 1)) = omega arith in rw (m, ← next-row 9 i rows (omega arith)) (rw (e, cellNamesIn))
 

@@ -1,16 +1,18 @@
 // The check of tables (15) and the lookup of I/O (18). It promises that lent tables are called good exactly where they are the layout
 // of a valid netlist, and that a lookup gives the first I/O row of the asked name. The checks of metadata and of cells stand below it;
 // whatever takes tables stands above.
+mod blank;
 pub mod ios;
+mod marks;
 pub mod names;
 pub mod parts;
 
+use crate::blank::no_bytes;
 use crate::ios::Upto;
 use crate::names::io_named;
 use crate::parts::cells_part;
 use crate::parts::ios_part;
 use crate::parts::metas_part;
-use checkmeta::pools::blank_bytes;
 use checkmeta::rows::word_of;
 use ground::Place;
 use ground::Refusal;
@@ -55,7 +57,7 @@ fn tables_good(
             Upto::Wrong => false,
             Upto::At(t) => match cells_part(cells, runs, trits, strings, nc, nm, t) {
                 Upto::Wrong => false,
-                Upto::At(x) => blank_bytes(strings, x),
+                Upto::At(x) => no_bytes(strings, x),
             },
         },
     }

@@ -1,4 +1,6 @@
-// Names declared twice (rule 9): a name beside those of the rows behind it.
+// Names declared twice (rule 9): a name beside those of the rows behind it. The rows are gone through from the last to the first, and each
+// name leaves its mark; only a name whose mark is there already is compared with the names behind it.
+use crate::marks::is_new;
 use checkmeta::rows::word_of;
 ghost use mathlib.Core.Path.{_≡_};
 ghost use mathlib.Core.Bool.{_&&_};
@@ -9,6 +11,7 @@ ghost use Rattle.ground.specs.Regions.{part};
 ghost use Rattle.ground.specs.Text.{same};
 ghost use Rattle.netlist.specs.Rules.{taken, distinct};
 ghost use Rattle.netlist.specs.View.{word};
+ghost use Rattle.checking.specs.Marks.{Marked};
 ghost use Rattle.checking.specs.Names.{ioName, cellName, ioNamesIn, cellNamesIn, IosNamed, CellsNamed};
 
 // Whether two strings are the same; those of other lengths are never compared.
@@ -54,22 +57,41 @@ fn io_taken(ios: &[u32], strings: &[u8], from: usize, n: usize, name: &[u8]) -> 
     false
 }
 
+// Whether the name of the I/O row i is taken by a row behind it, whose names have left their marks.
+fn io_again(ios: &[u32], strings: &[u8], i: usize, n: usize, seen: &mut [u8]) -> bool
+    requires { ⌜ (i < n) × IosNamed (now strings) n (now ios) × Marked (now seen) (ioNamesIn (now strings) (n - (i + 1)) (drop ((i + 1) * 3) (now ios))) ⌝ }
+    ensures { λ r. ⌜ (r ≡ taken (ioName (now (strings .entry)) (drop (i * 3) (now (ios .entry)))) (ioNamesIn (now (strings .entry)) (n - (i + 1)) (drop ((i + 1) * 3) (now (ios .entry))))) × Marked (now (seen .exit)) (ioNamesIn (now (strings .entry)) (n - i) (drop (i * 3) (now (ios .entry)))) ⌝ }
+{
+    let row = i * 3;
+    let start = word_of(ios, row);
+    let end = start + word_of(ios, row + 1);
+    if is_new(seen, &strings[start..end]) {
+        return false;
+    }
+    io_taken(ios, strings, i + 1, n, &strings[start..end])
+}
+
+fn ios_marked(ios: &[u32], strings: &[u8], n: usize, seen: &mut [u8]) -> bool
+    requires { ⌜ IosNamed (now strings) n (now ios) × (length (now seen) ≡ 65536) ⌝ }
+    ensures { λ r. ⌜ r ≡ distinct (ioNamesIn (now (strings .entry)) n (now (ios .entry))) ⌝ }
+{
+    let mut i = n;
+    while 0 < i {
+        i -= 1;
+        if io_again(ios, strings, i, n, seen) {
+            return false;
+        }
+    }
+    true
+}
+
 // Whether no two of the n I/O rows have one name.
 pub fn ios_distinct(ios: &[u32], strings: &[u8], n: usize) -> bool
     requires { ⌜ IosNamed (now strings) n (now ios) ⌝ }
     ensures { λ r. ⌜ r ≡ distinct (ioNamesIn (now (strings .entry)) n (now (ios .entry))) ⌝ }
 {
-    let mut i = 0;
-    while i < n {
-        let row = i * 3;
-        let start = word_of(ios, row);
-        let end = start + word_of(ios, row + 1);
-        if io_taken(ios, strings, i + 1, n, &strings[start..end]) {
-            return false;
-        }
-        i += 1;
-    }
-    true
+    let mut seen = [0u8; 65536];
+    ios_marked(ios, strings, n, &mut seen)
 }
 
 // Whether the cell row i is of the kind and has the name.
@@ -101,18 +123,35 @@ fn cell_taken(cells: &[u32], strings: &[u8], from: usize, n: usize, kind: u32, n
     false
 }
 
-// Whether the name of the cell row i, where it is of the kind, is taken by a row behind it.
-fn cell_again(cells: &[u32], strings: &[u8], i: usize, n: usize, kind: u32) -> bool
-    requires { ⌜ (i < n) × CellsNamed (now strings) n (now cells) ⌝ }
-    ensures { λ r. ⌜ r ≡ (eqb (word (drop (i * 9) (now (cells .entry))) 0) kind && taken (cellName (now (strings .entry)) (drop (i * 9) (now (cells .entry)))) (cellNamesIn (now (strings .entry)) kind (n - (i + 1)) (drop ((i + 1) * 9) (now (cells .entry))))) ⌝ }
+// Whether the name of the cell row i, where it is of the kind, is taken by a row behind it. Those names have left their marks.
+fn cell_again(cells: &[u32], strings: &[u8], i: usize, n: usize, kind: u32, seen: &mut [u8]) -> bool
+    requires { ⌜ (i < n) × CellsNamed (now strings) n (now cells) × Marked (now seen) (cellNamesIn (now strings) kind (n - (i + 1)) (drop ((i + 1) * 9) (now cells))) ⌝ }
+    ensures { λ r. ⌜ (r ≡ (eqb (word (drop (i * 9) (now (cells .entry))) 0) kind && taken (cellName (now (strings .entry)) (drop (i * 9) (now (cells .entry)))) (cellNamesIn (now (strings .entry)) kind (n - (i + 1)) (drop ((i + 1) * 9) (now (cells .entry)))))) × Marked (now (seen .exit)) (cellNamesIn (now (strings .entry)) kind (n - i) (drop (i * 9) (now (cells .entry)))) ⌝ }
 {
     let row = i * 9;
     if cells[row] == kind {
         let start = word_of(cells, row + 2);
         let end = start + word_of(cells, row + 3);
+        if is_new(seen, &strings[start..end]) {
+            return false;
+        }
         return cell_taken(cells, strings, i + 1, n, kind, &strings[start..end]);
     }
     false
+}
+
+fn cells_marked(cells: &[u32], strings: &[u8], n: usize, kind: u32, seen: &mut [u8]) -> bool
+    requires { ⌜ CellsNamed (now strings) n (now cells) × (length (now seen) ≡ 65536) ⌝ }
+    ensures { λ r. ⌜ r ≡ distinct (cellNamesIn (now (strings .entry)) kind n (now (cells .entry))) ⌝ }
+{
+    let mut i = n;
+    while 0 < i {
+        i -= 1;
+        if cell_again(cells, strings, i, n, kind, seen) {
+            return false;
+        }
+    }
+    true
 }
 
 // Whether no two of the n cells are of the kind and have one name.
@@ -120,12 +159,6 @@ pub fn cells_distinct(cells: &[u32], strings: &[u8], n: usize, kind: u32) -> boo
     requires { ⌜ CellsNamed (now strings) n (now cells) ⌝ }
     ensures { λ r. ⌜ r ≡ distinct (cellNamesIn (now (strings .entry)) kind n (now (cells .entry))) ⌝ }
 {
-    let mut i = 0;
-    while i < n {
-        if cell_again(cells, strings, i, n, kind) {
-            return false;
-        }
-        i += 1;
-    }
-    true
+    let mut seen = [0u8; 65536];
+    cells_marked(cells, strings, n, kind, &mut seen)
 }

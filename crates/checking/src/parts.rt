@@ -1,4 +1,6 @@
 // The tables part by part: metadata, I/O, cells; each behind the strings of the one before.
+use crate::blank::no_bytes;
+use crate::blank::no_words;
 use crate::ios::Upto;
 use crate::ios::ios_good;
 use crate::names::cells_distinct;
@@ -6,8 +8,6 @@ use crate::names::ios_distinct;
 use checkcells::cells::Cells;
 use checkcells::cells::cells_good;
 use checkmeta::fields::both;
-use checkmeta::pools::blank_bytes;
-use checkmeta::pools::blank_words;
 use checkmeta::rows::Metas;
 use checkmeta::rows::metas_good;
 ghost use mathlib.Core.Path.{_≡_};
@@ -30,7 +30,7 @@ pub fn metas_part(metas: &[u32], members: &[u32], bits: &[u8], n: usize) -> Upto
     match metas_good(metas, n, members, bits) {
         Metas::Wrong => Upto::Wrong,
         Metas::Ends(s, m, b) => {
-            if both(blank_words(members, m), blank_bytes(bits, b)) {
+            if both(no_words(members, m), no_bytes(bits, b)) {
                 return Upto::At(s);
             }
             Upto::Wrong
@@ -61,7 +61,7 @@ fn blank_behind(runs: &[u32], bits: &[u8], r: usize, b: usize) -> bool
     requires { ⌜ r ≤ 4096 ⌝ }
     ensures { λ q. ⌜ q ≡ (blank (drop (r * 3) (now (runs .entry))) && blank (drop b (now (bits .entry)))) ⌝ }
 {
-    both(blank_words(runs, r * 3), blank_bytes(bits, b))
+    both(no_words(runs, r * 3), no_bytes(bits, b))
 }
 
 // Names are unique among inputs, likewise among outputs.

@@ -13,7 +13,7 @@ use Rattle.checking.proofs.tables_good.Lts as lts
 use Rattle.checking.proofs.parts.cells_part.Reads as cells-part-reads
 use Rattle.checking.proofs.parts.ios_part.Reads as ios-part-reads
 use Rattle.checking.proofs.parts.metas_part.Reads as metas-part-reads
-use Rattle.checkmeta.proofs.pools.blank_bytes.Reads as blank-bytes-reads
+use Rattle.checking.proofs.blank.no_bytes.Reads as no-bytes-reads
 
 -- src/lib.rt:52:11
 metas-part-requires : tie.Need-metas-part-requires
@@ -52,8 +52,8 @@ enum-known-x : tie.Need-enum-known-x
 enum-known-x c = search needs
 
 -- src/lib.rt:58:32
-blank-bytes-requires : tie.Need-blank-bytes-requires
-blank-bytes-requires c κs = search needs
+no-bytes-requires : tie.Need-no-bytes-requires
+no-bytes-requires c κs = search needs
 
 -- src/lib.rt:36:1
 returns : tie.Need-returns
@@ -69,7 +69,7 @@ returns-3 c = let a = c .before .before .before .before .before .before .before 
 
 -- src/lib.rt:36:1
 returns-4 : tie.Need-returns-4
-returns-4 c = let a = c .before .before .before .before .before .before .before .before .before .before .before .before .before .before .before .before .before .before .before .before .before .args in let T = regions (a .nm) (a .ni) (a .nc) (a .metas .now) (a .members .now) (a .ios .now) (a .cells .now) (a .runs .now) (a .strings .now) (a .attrs .now) (a .trits .now) in let k : Lent T = record { long = record { metas = c .before .before .before .before .before .before .before .before .before .before .before .before .before .before .before .before .before .before .before .before .before .pre .0; members = c .before .before .before .before .before .before .before .before .before .before .before .before .before .before .before .before .before .before .before .before .before .pre .1; ios = c .before .before .before .before .before .before .before .before .before .before .before .before .before .before .before .before .before .before .before .before .before .pre .2; cells = c .before .before .before .before .before .before .before .before .before .before .before .before .before .before .before .before .before .before .before .before .before .pre .3; runs = c .before .before .before .before .before .before .before .before .before .before .before .before .before .before .before .before .before .before .before .before .before .pre .4; strings = c .before .before .before .before .before .before .before .before .before .before .before .before .before .before .before .before .before .before .before .before .before .pre .5; attrBits = c .before .before .before .before .before .before .before .before .before .before .before .before .before .before .before .before .before .before .before .before .before .pre .6; runBits = c .before .before .before .before .before .before .before .before .before .before .before .before .before .before .before .before .before .before .before .before .before .pre .7 }; bytes = every-below 256 (a .strings .now) (λ i. omega (arith, c .before .before .before .before .before .before .before .before .before .before .before .before .before .before .before .shared-slice-known6 .given i)); words = every-below 4294967296 (a .metas .now) (λ i. omega (arith, c .before .before .before .before .before .before .before .before .before .before .before .before .before .before .before .before .before .before .before .before .shared-slice-known .given i)) } in let p = sym (c .before .before .before .before .before .before .before .before .before .before .before .before .metas-part .ensures .0) ∙ c .before .before .before .before .before .before .before .before .before .before .s .given .1 in let q = sym (c .before .before .before .before .before .before .before .before .ios-part .ensures .0) ∙ c .before .before .before .before .before .before .t .given .1 in c .blank-bytes .ensures ∙ to-the-end T k _ _ _ p q (sym (c .before .before .before .before .cells-part .ensures) ∙ c .before .before .x .given .1)
+returns-4 c = let a = c .before .before .before .before .before .before .before .before .before .before .before .before .before .before .before .before .before .before .before .before .before .args in let T = regions (a .nm) (a .ni) (a .nc) (a .metas .now) (a .members .now) (a .ios .now) (a .cells .now) (a .runs .now) (a .strings .now) (a .attrs .now) (a .trits .now) in let k : Lent T = record { long = record { metas = c .before .before .before .before .before .before .before .before .before .before .before .before .before .before .before .before .before .before .before .before .before .pre .0; members = c .before .before .before .before .before .before .before .before .before .before .before .before .before .before .before .before .before .before .before .before .before .pre .1; ios = c .before .before .before .before .before .before .before .before .before .before .before .before .before .before .before .before .before .before .before .before .before .pre .2; cells = c .before .before .before .before .before .before .before .before .before .before .before .before .before .before .before .before .before .before .before .before .before .pre .3; runs = c .before .before .before .before .before .before .before .before .before .before .before .before .before .before .before .before .before .before .before .before .before .pre .4; strings = c .before .before .before .before .before .before .before .before .before .before .before .before .before .before .before .before .before .before .before .before .before .pre .5; attrBits = c .before .before .before .before .before .before .before .before .before .before .before .before .before .before .before .before .before .before .before .before .before .pre .6; runBits = c .before .before .before .before .before .before .before .before .before .before .before .before .before .before .before .before .before .before .before .before .before .pre .7 }; bytes = every-below 256 (a .strings .now) (λ i. omega (arith, c .before .before .before .before .before .before .before .before .before .before .before .before .before .before .before .shared-slice-known6 .given i)); words = every-below 4294967296 (a .metas .now) (λ i. omega (arith, c .before .before .before .before .before .before .before .before .before .before .before .before .before .before .before .before .before .before .before .before .shared-slice-known .given i)) } in let p = sym (c .before .before .before .before .before .before .before .before .before .before .before .before .metas-part .ensures .0) ∙ c .before .before .before .before .before .before .before .before .before .before .s .given .1 in let q = sym (c .before .before .before .before .before .before .before .before .ios-part .ensures .0) ∙ c .before .before .before .before .before .before .t .given .1 in c .no-bytes .ensures ∙ to-the-end T k _ _ _ p q (sym (c .before .before .before .before .cells-part .ensures) ∙ c .before .before .x .given .1)
 
 pub tables-good-spec : {M : Type 1} → statement M
 tables-good-spec =
@@ -84,7 +84,7 @@ tables-good-spec =
     cells-part-requires
     enum-told-3
     enum-known-x
-    blank-bytes-requires
+    no-bytes-requires
     returns
     returns-2
     returns-3

@@ -1,75 +1,105 @@
-use Rattle.checking.proofs.Laws.{name-part, row-word, row-head}
-use borrow.Author.Tests.{eq-eqb, ne-eqb}
+use Prim.Native.Nat.{_-_, _*_, _+_, _≤_}
 use native.Mathlib.Omega.{arith}
-use mathlib.Core.Path.{_∙_, sym, refl}
-use Prim.Native.Nat.{_*_}
+use mathlib.Core.Path.{_≡_, refl, sym, _∙_}
+use borrow.Author.Tests.{eq-eqb, ne-eqb}
+use Rattle.checking.proofs.Laws.{name-part, row-word, row-head}
+use Rattle.checking.proofs.Marking.{cell-new, cell-seen, cell-apart}
 use borrow.Author.Needs.{needs}
 use Rattle.checking.proofs.names.cell_again.Statement.{statement}
 use Rattle.checking.proofs.names.cell_again.Tie as tie
 use Rattle.checking.proofs.names.cell_again.Reads as reads
 use Rattle.checking.proofs.names.cell_again.Lts as lts
+use Rattle.checking.proofs.marks.is_new.Reads as is-new-reads
 use Rattle.checking.proofs.names.cell_taken.Reads as cell-taken-reads
 use Rattle.checkmeta.proofs.rows.word_of.Reads as word-of-reads
 
--- src/names.rt:116:15
+-- src/names.rt:131:15
 mul-row : tie.Need-mul-row
 mul-row c = search needs
 
--- src/names.rt:117:8
+-- src/names.rt:132:8
 mul-if1 : tie.Need-mul-if1
-mul-if1 c = omega (arith, c .before .before .pre .0, c .before .before .pre .1 .long, c .before .before .good)
+mul-if1 c = search needs
 
--- src/names.rt:117:8
+-- src/names.rt:132:8
 shared-slice-read-if1 : tie.Need-shared-slice-read-if1
-shared-slice-read-if1 c = omega (arith, c .before .before .before .pre .0, c .before .before .before .pre .1 .long)
+shared-slice-read-if1 c = search needs
 
--- src/names.rt:118:36
+-- src/names.rt:133:36
 add-word-of : tie.Need-add-word-of
 add-word-of c = search needs
 
--- src/names.rt:118:13
+-- src/names.rt:133:13
 word-of-requires : tie.Need-word-of-requires
-word-of-requires c κs = omega (arith, c .before .before .before .before .pre .0, c .before .before .before .before .pre .1 .long)
+word-of-requires c κs = search needs
 
--- src/names.rt:119:42
+-- src/names.rt:134:42
 add-word-of-2 : tie.Need-add-word-of-2
 add-word-of-2 c = search needs
 
--- src/names.rt:119:27
+-- src/names.rt:134:27
 word-of-requires-2 : tie.Need-word-of-requires-2
-word-of-requires-2 c κs = omega (arith, c .before .before .before .before .before .pre .0, c .before .before .before .before .before .pre .1 .long)
+word-of-requires-2 c κs = search needs
 
--- src/names.rt:119:19
+-- src/names.rt:134:19
 add-end : tie.Need-add-end
 add-end c = search needs
 
--- src/names.rt:120:43
+-- src/names.rt:135:25
+sub-is-new : tie.Need-sub-is-new
+sub-is-new c = search needs
+
+-- src/names.rt:135:25
+part-is-new-start : tie.Need-part-is-new-start
+part-is-new-start c = search needs
+
+-- src/names.rt:135:25
+part-is-new-end : tie.Need-part-is-new-end
+part-is-new-end c = let a = c .before .before .before .before .before .before .before .before .args in let u = row-word (a .i * 9) 2 _ (a .cells .now) (c .before .before .word-of .ensures .0) in let v = row-word (a .i * 9) 3 _ (a .cells .now) (c .before .word-of2 .ensures .0) in omega (arith, u, v, c .before .before .before .before .before .before .before .before .pre .1 .each (a .i) (c .before .before .before .before .before .before .before .before .pre .0))
+
+-- src/names.rt:135:12
+is-new-requires : tie.Need-is-new-requires
+is-new-requires c κs = search needs
+
+-- src/names.rt:136:13
+same-length : tie.Need-same-length
+same-length c = search needs
+
+-- src/names.rt:136:13
+returns : tie.Need-returns
+returns c = let a = c .before .before .before .before .before .before .before .before .before .before .before .before .before .args in let u = row-word (a .i * 9) 2 _ (a .cells .now) (c .before .before .before .before .before .before .before .word-of .ensures .0) in let v = row-word (a .i * 9) 3 _ (a .cells .now) (c .before .before .before .before .before .before .word-of2 .ensures .0) in cell-new (a .strings .now) (a .kind) (a .n) (a .i) (a .cells .now) (a .seen .now) (c .before .before .before .before .before .before .before .before .before .before .before .before .before .pre .0) (c .before .before .before .before .before .before .before .before .before .before .before .before .before .pre .2) (eq-eqb _ _ (sym (row-head (a .i * 9) _ (a .cells .now) refl) ∙ c .before .before .before .before .before .before .before .before .if1 .taken)) _ _ (name-part (a .strings .now) _ _ _ _ u v) (sym (c .before .before .before .is-new .ensures .0) ∙ c .if2 .taken) (c .before .before .before .is-new .ensures .1)
+
+-- src/names.rt:138:43
 add-cell-taken : tie.Need-add-cell-taken
 add-cell-taken c = search needs
 
--- src/names.rt:120:59
+-- src/names.rt:138:59
 sub-cell-taken : tie.Need-sub-cell-taken
 sub-cell-taken c = search needs
 
--- src/names.rt:120:59
+-- src/names.rt:138:59
 part-cell-taken-start : tie.Need-part-cell-taken-start
 part-cell-taken-start c = search needs
 
--- src/names.rt:120:59
+-- src/names.rt:138:59
 part-cell-taken-end : tie.Need-part-cell-taken-end
-part-cell-taken-end c = let a = c .before .before .before .before .before .before .args in let u = row-word (a .i * 9) 2 _ (a .cells .now) (c .before .word-of .ensures .0) in let v = row-word (a .i * 9) 3 _ (a .cells .now) (c .word-of2 .ensures .0) in omega (arith, u, v, c .before .before .before .before .before .before .pre .1 .each (a .i) (c .before .before .before .before .before .before .pre .0))
+part-cell-taken-end c = let a = c .before .before .before .before .before .before .before .before .before .before .before .before .before .args in let u = row-word (a .i * 9) 2 _ (a .cells .now) (c .before .before .before .before .before .before .before .word-of .ensures .0) in let v = row-word (a .i * 9) 3 _ (a .cells .now) (c .before .before .before .before .before .before .word-of2 .ensures .0) in omega (arith, u, v, c .before .before .before .before .before .before .before .before .before .before .before .before .before .pre .1 .each (a .i) (c .before .before .before .before .before .before .before .before .before .before .before .before .before .pre .0))
 
--- src/names.rt:120:9
+-- src/names.rt:138:9
 cell-taken-requires : tie.Need-cell-taken-requires
-cell-taken-requires c κs = (omega (arith, c .before .before .before .before .before .before .before .pre .0), c .before .before .before .before .before .before .before .pre .1)
+cell-taken-requires c κs = search needs
 
--- src/names.rt:120:9
-returns : tie.Need-returns
-returns c = let a = c .before .before .before .before .before .before .before .before .args in let u = row-word (a .i * 9) 2 _ (a .cells .now) (c .before .before .before .word-of .ensures .0) in let v = row-word (a .i * 9) 3 _ (a .cells .now) (c .before .before .word-of2 .ensures .0) in rw (← row-head (a .i * 9) _ (a .cells .now) refl, eq-eqb _ _ (c .before .before .before .before .if1 .taken), ← name-part (a .strings .now) _ _ _ _ u v) (c .cell-taken .ensures)
+-- src/names.rt:138:9
+same-length-2 : tie.Need-same-length-2
+same-length-2 c = search needs
 
--- src/names.rt:112:1
+-- src/names.rt:138:9
 returns-2 : tie.Need-returns-2
-returns-2 c = let a = c .before .before .before .before .args in rw (← row-head (a .i * 9) _ (a .cells .now) refl, ne-eqb _ _ (c .if1 .left))
+returns-2 c = let a = c .before .before .before .before .before .before .before .before .before .before .before .before .before .before .before .args in let u = row-word (a .i * 9) 2 _ (a .cells .now) (c .before .before .before .before .before .before .before .before .before .word-of .ensures .0) in let v = row-word (a .i * 9) 3 _ (a .cells .now) (c .before .before .before .before .before .before .before .before .word-of2 .ensures .0) in cell-seen (a .strings .now) (a .kind) (a .n) (a .i) (a .cells .now) (a .seen .now) (c .before .before .before .before .before .before .before .before .before .before .before .before .before .before .before .pre .0) (c .before .before .before .before .before .before .before .before .before .before .before .before .before .before .before .pre .2) (eq-eqb _ _ (sym (row-head (a .i * 9) _ (a .cells .now) refl) ∙ c .before .before .before .before .before .before .before .before .before .before .if1 .taken)) _ _ _ (name-part (a .strings .now) _ _ _ _ u v) (c .cell-taken .ensures) (c .before .before .before .before .before .is-new .ensures .1)
+
+-- src/names.rt:127:1
+returns-3 : tie.Need-returns-3
+returns-3 c = let a = c .before .before .before .before .before .args in cell-apart (a .strings .now) (a .kind) (a .n) (a .i) (a .cells .now) (a .seen .now) (c .before .before .before .before .before .pre .0) (c .before .before .before .before .before .pre .2) (ne-eqb _ _ (λ e. c .if1 .left (row-head (a .i * 9) _ (a .cells .now) refl ∙ e)))
 
 pub cell-again-spec : {M : Type 1} → statement M
 cell-again-spec =
@@ -83,10 +113,17 @@ cell-again-spec =
     add-word-of-2
     word-of-requires-2
     add-end
+    sub-is-new
+    part-is-new-start
+    part-is-new-end
+    is-new-requires
+    same-length
+    returns
     add-cell-taken
     sub-cell-taken
     part-cell-taken-start
     part-cell-taken-end
     cell-taken-requires
-    returns
-    returns-2)
+    same-length-2
+    returns-2
+    returns-3)

@@ -10,8 +10,8 @@ use Rattle.checking.proofs.parts.metas_part.Tie as tie
 use Rattle.checking.proofs.parts.metas_part.Reads as reads
 use Rattle.checking.proofs.parts.metas_part.Lts as lts
 use Rattle.checkmeta.proofs.fields.both.Reads as both-reads
-use Rattle.checkmeta.proofs.pools.blank_bytes.Reads as blank-bytes-reads
-use Rattle.checkmeta.proofs.pools.blank_words.Reads as blank-words-reads
+use Rattle.checking.proofs.blank.no_bytes.Reads as no-bytes-reads
+use Rattle.checking.proofs.blank.no_words.Reads as no-words-reads
 use Rattle.checkmeta.proofs.rows.metas_good.Reads as metas-good-reads
 
 -- src/parts.rt:28:9
@@ -32,12 +32,12 @@ enum-known-s : tie.Need-enum-known-s
 enum-known-s c = search needs
 
 -- src/parts.rt:33:21
-blank-words-requires : tie.Need-blank-words-requires
-blank-words-requires c κs = search needs
+no-words-requires : tie.Need-no-words-requires
+no-words-requires c κs = search needs
 
 -- src/parts.rt:33:46
-blank-bytes-requires : tie.Need-blank-bytes-requires
-blank-bytes-requires c κs = search needs
+no-bytes-requires : tie.Need-no-bytes-requires
+no-bytes-requires c κs = search needs
 
 -- src/parts.rt:33:16
 both-requires : tie.Need-both-requires
@@ -46,7 +46,7 @@ both-requires c κs = search needs
 -- src/parts.rt:34:17
 returns-2 : tie.Need-returns-2
 unfolding metasPart
-returns-2 c = let l : stringsUpto (c .before .before .before .before .before .before .before .metas-good .result) ≤ 16384 = c .before .before .before .before .before .before .before .metas-good .ensures .1 in let w = sym (c .before .before .before .before .before .before .before .metas-good .ensures .0) ∙ c .before .before .before .before .before .s .given .1 in let e = rw (c .before .before .before .blank-words .ensures, c .before .before .blank-bytes .ensures) at (sym (c .before .both .ensures) ∙ c .if2 .taken) in (rw (le-leb _ 512 (c .before .before .before .before .before .before .before .before .if1 .left), w, e), rw (c .before .before .before .before .before .s .given .1) at l)
+returns-2 c = let l : stringsUpto (c .before .before .before .before .before .before .before .metas-good .result) ≤ 16384 = c .before .before .before .before .before .before .before .metas-good .ensures .1 in let w = sym (c .before .before .before .before .before .before .before .metas-good .ensures .0) ∙ c .before .before .before .before .before .s .given .1 in let e = rw (c .before .before .before .no-words .ensures, c .before .before .no-bytes .ensures) at (sym (c .before .both .ensures) ∙ c .if2 .taken) in (rw (le-leb _ 512 (c .before .before .before .before .before .before .before .before .if1 .left), w, e), rw (c .before .before .before .before .before .s .given .1) at l)
 
 -- src/parts.rt:23:1
 returns-3 : tie.Need-returns-3
@@ -56,7 +56,7 @@ returns-3 c = let w = sym (c .before .before .metas-good .ensures .0) ∙ c .enu
 -- src/parts.rt:23:1
 returns-4 : tie.Need-returns-4
 unfolding metasPart
-returns-4 c = let w = sym (c .before .before .before .before .before .before .before .metas-good .ensures .0) ∙ c .before .before .before .before .before .s .given .1 in let e = rw (c .before .before .before .blank-words .ensures, c .before .before .blank-bytes .ensures) at (sym (c .before .both .ensures) ∙ c .if2 .left) in (rw (le-leb _ 512 (c .before .before .before .before .before .before .before .before .if1 .left), w, e), omega arith)
+returns-4 c = let w = sym (c .before .before .before .before .before .before .before .metas-good .ensures .0) ∙ c .before .before .before .before .before .s .given .1 in let e = rw (c .before .before .before .no-words .ensures, c .before .before .no-bytes .ensures) at (sym (c .before .both .ensures) ∙ c .if2 .left) in (rw (le-leb _ 512 (c .before .before .before .before .before .before .before .before .if1 .left), w, e), omega arith)
 
 pub metas-part-spec : {M : Type 1} → statement M
 metas-part-spec =
@@ -66,8 +66,8 @@ metas-part-spec =
     metas-good-requires
     enum-told
     enum-known-s
-    blank-words-requires
-    blank-bytes-requires
+    no-words-requires
+    no-bytes-requires
     both-requires
     returns-2
     returns-3
