@@ -2,6 +2,7 @@ pub mod Cases
 pub mod Letters
 pub mod Measures
 pub mod Outcomes
+pub mod Shorts
 pub mod Steps
 pub mod Sums
 pub mod Widths

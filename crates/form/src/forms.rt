@@ -15,6 +15,7 @@ use crate::Ref;
 use crate::Str;
 use crate::Taken;
 use crate::Wiring;
+use crate::parts::mark_before;
 use crate::parts::operand_at;
 use crate::parts::ref_of;
 use crate::parts::set_at;
@@ -32,11 +33,12 @@ use lexis::Step;
 use lexis::Token;
 use lexis::classes::classes;
 ghost use mathlib.Core.Path.{_≡_};
+ghost use mathlib.Core.Bool.{true};
 ghost use Prim.Native.Nat.{_≤_};
 ghost use lib.ListN.{length};
 ghost use Rattle.ground.specs.Choice.{pick};
 ghost use Rattle.ground.specs.Refusals.{refusal};
-ghost use Rattle.lexis.specs.Bytes.{table};
+ghost use Rattle.lexis.specs.Bytes.{table, isSpecial};
 ghost use Rattle.lexis.specs.Tokens.{tokenAt, insideAt};
 ghost use Rattle.lexis.specs.declared.Step.the-variants as step;
 ghost use Rattle.form.specs.Words.{isMark, isSpelled};
@@ -54,8 +56,8 @@ fn allowed(ok: bool, token: Token, reader: Reader) -> Step
     Step::Refused(Refusal { number: 7, place })
 }
 
-// The special character that must stand next.
-fn mark_at(t: &[u8; 256], text: &[u8], b: u8, reader: Reader) -> Step
+// The special character that must stand next, by its token.
+fn mark_token(t: &[u8; 256], text: &[u8], b: u8, reader: Reader) -> Step
     requires { ⌜ now t ≡ table ⌝ }
     ensures { λ r. ⌜ r ≡ markAt (now (text .entry)) b (reader .next .at) ⌝ }
 {
@@ -63,6 +65,18 @@ fn mark_at(t: &[u8; 256], text: &[u8], b: u8, reader: Reader) -> Step
         Step::Refused(g) => Step::Refused(g),
         Step::Took(token, r) => allowed(is_mark(b, token), token, r),
     }
+}
+
+// The special character that must stand next. Where it does, no token is made of it.
+fn mark_at(t: &[u8; 256], text: &[u8], b: u8, reader: Reader) -> Step
+    requires { ⌜ (now t ≡ table) × (isSpecial b ≡ true) ⌝ }
+    ensures { λ r. ⌜ r ≡ markAt (now (text .entry)) b (reader .next .at) ⌝ }
+{
+    let end = reader.byte_with(t, text, b);
+    if 0 < end {
+        return mark_before(b, end);
+    }
+    mark_token(t, text, b, reader)
 }
 
 // The token of a sort that must stand next.
@@ -108,8 +122,8 @@ fn closing_at(t: &[u8; 256], text: &[u8], reader: Reader) -> Step
     }
 }
 
-// The declaration that the token opened, where its line ends here.
-fn ended(t: &[u8; 256], text: &[u8], token: Token, decl: Decl, reader: Reader) -> Form
+// The declaration that the token opened, where its line ends here by a token.
+fn ended_by(t: &[u8; 256], text: &[u8], token: Token, decl: Decl, reader: Reader) -> Form
     requires { ⌜ now t ≡ table ⌝ }
     ensures { λ r. ⌜ r ≡ ended (now (text .entry)) token decl (reader .next .at) ⌝ }
 {
@@ -119,6 +133,21 @@ fn ended(t: &[u8; 256], text: &[u8], token: Token, decl: Decl, reader: Reader) -
         Step::Refused(g) => Form::Refused(g),
         Step::Took(_, r) => Form::Took(Declared { place, index, decl }, r),
     }
+}
+
+// The declaration that the token opened, where its line ends here: most lines end with a line feed right there.
+fn ended(t: &[u8; 256], text: &[u8], token: Token, decl: Decl, reader: Reader) -> Form
+    requires { ⌜ now t ≡ table ⌝ }
+    ensures { λ r. ⌜ r ≡ ended (now (text .entry)) token decl (reader .next .at) ⌝ }
+{
+    let place = token.place;
+    let index = token.value;
+    let end = reader.byte_with(t, text, 10);
+    if 0 < end {
+        let next = Place { at: end };
+        return Form::Took(Declared { place, index, decl }, Reader { next });
+    }
+    ended_by(t, text, token, decl, reader)
 }
 
 fn set_form(t: &[u8; 256], text: &[u8], token: Token, reader: Reader) -> Form

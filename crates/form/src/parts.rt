@@ -11,17 +11,39 @@ use crate::Str;
 use crate::Taken;
 use crate::words::is_mark;
 use crate::words::is_sort;
+use ground::Place;
 use ground::Refusal;
 use lexis::Reader;
 use lexis::Step;
 use lexis::Token;
 ghost use mathlib.Core.Path.{_≡_};
 ghost use mathlib.Core.Bool.{true};
-ghost use Prim.Native.Nat.{_≤_};
+ghost use Prim.Native.Nat.{_-_, _<_, _≤_};
 ghost use lib.ListN.{length};
 ghost use Rattle.lexis.specs.Bytes.{table};
+ghost use Rattle.lexis.specs.Tokens.{took, plain, tokenAt};
 ghost use Rattle.lexis.specs.declared.Step.the-variants.{Took};
 ghost use Rattle.form.specs.Parts.{isPart, str, baseOf, partOf, baseWidth, partWidth, widest, Narrow, refusedPart, partedOf, nextPart, concatEnd, concatAt, closedOperand, operandFrom, operandAt, ref, memberedOf, nextMember, setEnd, setAt};
+
+// The special character before a place, as it is taken.
+pub fn mark_before(b: u8, end: usize) -> Step
+    requires { ⌜ 0 < end ⌝ }
+    ensures { λ r. ⌜ r ≡ took (plain 2 (end - 1) b 0 0) end ⌝ }
+{
+    let token = Token {
+        sort: 2,
+        place: Place { at: end - 1 },
+        value: b as u32,
+        from: 0,
+        size: 0,
+        parts: 0,
+        offset: 0,
+        width: 0,
+        count: 0,
+    };
+    let next = Place { at: end };
+    Step::Took(token, Reader { next })
+}
 
 // A constant or a cell piece, each alone or repeated.
 pub fn is_part(token: Token) -> bool
@@ -195,12 +217,24 @@ fn closed_operand(at: usize, concatenation: Measured) -> Taken
     }
 }
 
+// The first token of an operand. Where `[` begins it, that is told by its byte.
+pub fn first_token(t: &[u8; 256], text: &[u8], reader: Reader) -> Step
+    requires { ⌜ now t ≡ table ⌝ }
+    ensures { λ r. ⌜ r ≡ tokenAt (now (text .entry)) (reader .next .at) ⌝ }
+{
+    let end = reader.byte_with(t, text, 91);
+    if 0 < end {
+        return mark_before(91, end);
+    }
+    reader.next_with(t, text)
+}
+
 pub fn operand_at(t: &[u8; 256], text: &[u8], reader: Reader) -> Taken
     requires { ⌜ (now t ≡ table) × (length (now text) ≤ 65536) ⌝ }
     ensures { λ r. ⌜ r ≡ operandAt (now (text .entry)) (reader .next .at) ⌝ }
 {
     let at = reader.next.at;
-    match reader.next_with(t, text) {
+    match first_token(t, text, reader) {
         Step::Refused(g) => Taken::Refused(g),
         Step::Took(token, r) => operand_from(t, text, at, token, r),
     }
@@ -217,8 +251,8 @@ pub fn ref_of(token: Token) -> Ref
     }
 }
 
-// What stands next between the brackets of a set.
-pub fn next_member(t: &[u8; 256], text: &[u8], reader: Reader) -> Membered
+// What stands next between the brackets of a set, by its token.
+fn member_by(t: &[u8; 256], text: &[u8], reader: Reader) -> Membered
     requires { ⌜ now t ≡ table ⌝ }
     ensures { λ r. ⌜ r ≡ nextMember (now (text .entry)) (reader .next .at) ⌝ }
 {
@@ -226,6 +260,29 @@ pub fn next_member(t: &[u8; 256], text: &[u8], reader: Reader) -> Membered
         Step::Refused(g) => Membered::Refused(g),
         Step::Took(token, r) => membered(token, r),
     }
+}
+
+// What stands next between the brackets of a set. A reference is taken by its index: a token of it costs more.
+pub fn next_member(t: &[u8; 256], text: &[u8], reader: Reader) -> Membered
+    requires { ⌜ now t ≡ table ⌝ }
+    ensures { λ r. ⌜ r ≡ nextMember (now (text .entry)) (reader .next .at) ⌝ }
+{
+    let link = reader.link_with(t, text);
+    if link.found {
+        let index = link.index;
+        let place = Place { at: link.at };
+        let next = Place { at: link.end };
+        let given = true;
+        return Membered::Took(
+            Ref {
+                given,
+                index,
+                place,
+            },
+            Reader { next },
+        );
+    }
+    member_by(t, text, reader)
 }
 
 fn membered(token: Token, reader: Reader) -> Membered
@@ -256,6 +313,15 @@ pub fn set_at(t: &[u8; 256], text: &[u8], reader: Reader) -> Measured
     let mut next = reader;
     let mut left = text.len() + 1;
     while 0 < left {
+        let link = next.link_with(t, text);
+        if link.found {
+            count += 1;
+            next = Reader {
+                next: Place { at: link.end },
+            };
+            left -= 1;
+            continue;
+        }
         match next.inside_with(t, text) {
             Step::Took(token, r) => {
                 if is_sort(6, token) {

@@ -8,6 +8,7 @@ pub mod trits;
 
 use form::Operand;
 use form::Wiring;
+use form::parts::first_token;
 use form::parts::is_part;
 use ground::Place;
 use lexis::Reader;
@@ -74,7 +75,7 @@ pub fn lay_operand(
     let at = operand.at;
     if operand.given {
         let reader = Reader { next: Place { at } };
-        let step = reader.next_with(t, text);
+        let step = first_token(t, text, reader);
         let Step::Took(token, next) = step else {
             return OperandLaying::Laid(so, false);
         };

@@ -8,7 +8,7 @@ use native.Mathlib.Omega.{arith}
 use lib.Dec.{ltb, eqb}
 use lib.ListN.{length, drop, getD}
 use lib.Seq.{getD-drop}
-use borrow.Author.Tests.{lt-ltb, ltb-true, ltb-false}
+use borrow.Author.Tests.{lt-ltb, ltb-true, ltb-false, eqb-true}
 use Rattle.ground.specs.Choice.{pick}
 use Rattle.ground.proofs.Bools.{bool-cases}
 use Rattle.ground.proofs.Rest.{rest-cons, rest-end, past-zero}
@@ -52,6 +52,18 @@ module _ (s : List ℕ) (i : ℕ) where
       (λ f. bool-cases (eqb (classOf (getD s i 0)) 14)
       (λ g. rw (← e, rest-cons s i h, f, g, insideEnd))
       (λ g. rw (← e, rest-cons s i h, f, g, insideEnd)))
+
+  -- the line feed that ends a comment is white space to what begins there
+  pub inside-feed : i < length s → insideMove true (classOf (getD s i 0)) ≡ 1 → insideEnd (drop i s) false i ≡ insideEnd (drop i s) true i
+  inside-feed h e =
+      let f : isFeed (getD s i 0) ≡ true = bool-cases (isFeed (getD s i 0)) (λ z. z) (λ z. let n : _≡_ {A = ℕ} 2 1 = rw z at e in absurd (omega arith)) in
+      let c : classOf (getD s i 0) ≡ 2 = eqb-true _ _ f in
+      let w : insideMove false (classOf (getD s i 0)) ≡ 1 = rw c in
+      inside-at false 1 h w ∙ sym (inside-at true 1 h e)
+
+  -- any other byte of a comment is passed
+  pub inside-noted : i < length s → (insideMove true (classOf (getD s i 0)) ≡ 1 → ⊥) → insideEnd (drop i s) true i ≡ insideEnd (drop (i + 1) s) true (i + 1)
+  inside-noted h n = bool-cases (isFeed (getD s i 0)) (λ f. absurd (n (rw f))) (λ f. inside-at true 2 h (rw f))
 
   pub inside-end : (noted : Bool) → length s ≤ i → insideEnd (drop i s) noted i ≡ i
   unfolding insideEnd

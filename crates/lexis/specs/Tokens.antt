@@ -14,6 +14,7 @@ use Rattle.lexis.specs.declared.pieces.Quoted.{Quoted}
 use Rattle.lexis.specs.declared.pieces.Quoted.the-variants.{Closed, Malformed}
 use Rattle.lexis.specs.declared.Token.{Token}
 use Rattle.lexis.specs.declared.Spot.{Spot}
+use Rattle.lexis.specs.declared.Link.{Link}
 use Rattle.lexis.specs.declared.Step.{Step}
 use Rattle.lexis.specs.declared.Step.the-variants.{Took, Refused}
 
@@ -231,3 +232,23 @@ unfoldable pub spotAt : List ℕ → ℕ → Spot
 spotAt text at =
     let k = insideEnd (drop at text) false at in
     pick (eqb (getD text k 0) 37 && not (follows text k)) (spotOf (cellOf text k)) (noSpot (eqb (getD text k 0) 93))
+
+abbrev pub link : ℕ → ℕ → ℕ → Link
+link index k end = record { found = true; index = index; at = k; end = end }
+
+abbrev pub noLink : Link
+noLink = record { found = false; index = 0; at = 0; end = 0 }
+
+abbrev pub linkOf : Step → Link
+linkOf (Took t r) = link (t .value) (t .place .at) (r .next .at)
+linkOf (Refused g) = noLink
+
+-- THE REFERENCE between brackets, by its index
+unfoldable pub linkAt : List ℕ → ℕ → Link
+linkAt text at =
+    let k = insideEnd (drop at text) false at in
+    pick (eqb (getD text k 0) 33 && not (follows text k)) (linkOf (metaOf text k)) noLink
+
+-- THE BYTE b from the place on, where only white space stands before it: the place past it, or 0
+unfoldable pub byteEnd : List ℕ → ℕ → ℕ → ℕ
+byteEnd text b at = let k = spanEnd isWhite (drop at text) at in pick (eqb (getD text k 0) b) (k + 1) 0

@@ -43,6 +43,14 @@ pub struct Spot {
     pub end: usize,
 }
 
+// A reference between brackets: its index, its place and the place past it.
+pub struct Link {
+    pub found: bool,
+    pub index: u32,
+    pub at: usize,
+    pub end: usize,
+}
+
 // The text as a whole: sound, or a refusal 2, 3 or 4 with its place.
 pub enum Whole {
     Sound,

@@ -3,6 +3,7 @@ use crate::classes::class_at;
 ghost use mathlib.Core.Path.{_≡_};
 ghost use mathlib.Core.Bool.{true, false, _&&_};
 ghost use Prim.Native.Nat.{_+_, _<_, _≤_};
+ghost use lib.Dec.{eqb};
 ghost use lib.ListN.{length, drop, getD};
 ghost use Rattle.lexis.specs.Bytes.{table, within, among, isDigit, isHex, isRaw};
 ghost use Rattle.lexis.specs.Pieces.{spanEnd, commentEnd, insideMove, insideEnd, grownPast, limited, numeralAt, suffixAt, takenAt, quotedAt};
@@ -108,21 +109,48 @@ fn inside_move(noted: bool, c: u8) -> u8
     0
 }
 
+// The line feed that ends a comment, or the end of the text. Most bytes that are passed between brackets stand in comments, so these
+// have a loop of their own.
+fn comment_past(t: &[u8; 256], text: &[u8], at: usize) -> usize
+    requires { ⌜ now t ≡ table ⌝ }
+    ensures { λ r. ⌜ (insideEnd (drop r (now (text .entry))) false r ≡ insideEnd (drop at (now (text .entry))) true at) × (at ≤ r) ⌝ }
+{
+    let mut i = at;
+    while i < text.len() {
+        let b = text[i];
+        let m = inside_move(true, class_at(t, b));
+        if m == 1 {
+            return i;
+        }
+        i += 1;
+    }
+    i
+}
+
+// Behind a byte that makes the move m: a comment is passed.
+fn behind_move(t: &[u8; 256], text: &[u8], m: u8, at: usize) -> usize
+    requires { ⌜ now t ≡ table ⌝ }
+    ensures { λ r. ⌜ (insideEnd (drop r (now (text .entry))) false r ≡ insideEnd (drop at (now (text .entry))) (eqb m 2) at) × (at ≤ r) ⌝ }
+{
+    if m == 2 {
+        return comment_past(t, text, at);
+    }
+    at
+}
+
 // The place of the next token between brackets.
 pub(crate) fn inside_end(t: &[u8; 256], text: &[u8], at: usize) -> usize
     requires { ⌜ now t ≡ table ⌝ }
     ensures { λ r. ⌜ r ≡ insideEnd (drop at (now (text .entry))) false at ⌝ }
 {
-    let mut noted = false;
     let mut i = at;
     while i < text.len() {
         let b = text[i];
-        let m = inside_move(noted, class_at(t, b));
+        let m = inside_move(false, class_at(t, b));
         if m == 0 {
             return i;
         }
-        noted = m == 2;
-        i += 1;
+        i = behind_move(t, text, m, i + 1);
     }
     i
 }

@@ -1,4 +1,5 @@
 // The tokens, each by the bytes that begin it, and the reader that goes from token to token.
+use crate::Link;
 use crate::Reader;
 use crate::Spot;
 use crate::Step;
@@ -27,7 +28,7 @@ ghost use lib.ListN.{length};
 ghost use Rattle.ground.specs.Choice.{pick};
 ghost use Rattle.lexis.specs.Bytes.{table};
 ghost use Rattle.lexis.specs.Pieces.{suffixAt, quotedAt};
-ghost use Rattle.lexis.specs.Tokens.{written, took, plain, refused, single, signedOf, metaOf, numberOf, constantFrom, constantOf, cellTook, cellFrom, opensPlaceholder, cellOf, ioFrom, namedFrom, floatingFrom, ioOf, stringStep, wordOf, longOf, follows, standingAt, tokenAt, insideAt, partOr, noSpot, spotOf, spotAt};
+ghost use Rattle.lexis.specs.Tokens.{written, took, plain, refused, single, signedOf, metaOf, numberOf, constantFrom, constantOf, cellTook, cellFrom, opensPlaceholder, cellOf, ioFrom, namedFrom, floatingFrom, ioOf, stringStep, wordOf, longOf, follows, standingAt, tokenAt, insideAt, partOr, noSpot, spotOf, spotAt, noLink, linkOf, linkAt, byteEnd};
 
 fn refused(number: u8, k: usize) -> Step
     ensures { λ r. ⌜ r ≡ refused number k ⌝ }
@@ -581,6 +582,39 @@ fn cell_spot(text: &[u8], k: usize) -> Spot
     }
 }
 
+fn no_link() -> Link
+    ensures { λ r. ⌜ r ≡ noLink ⌝ }
+{
+    Link {
+        found: false,
+        index: 0,
+        at: 0,
+        end: 0,
+    }
+}
+
+// The reference at a place.
+fn meta_link(text: &[u8], k: usize) -> Link
+    requires { ⌜ k < length (now text) ⌝ }
+    ensures { λ r. ⌜ r ≡ linkOf (metaOf (now (text .entry)) k) ⌝ }
+{
+    let from = k + 1;
+    let i = numeral_at(text, from, 65535);
+    let end = i.end;
+    if end == from {
+        return no_link();
+    }
+    if i.large {
+        return no_link();
+    }
+    Link {
+        found: true,
+        index: i.value,
+        at: k,
+        end,
+    }
+}
+
 impl Reader {
     // The next token, where line ends are tokens, with a lent table.
     pub fn next_with(self, t: &[u8; 256], text: &[u8]) -> Step
@@ -617,6 +651,37 @@ impl Reader {
             return cell_spot(text, k);
         }
         no_spot(b == 93)
+    }
+
+    // The next reference between brackets by its index: members of sets are read three times, and a token of each costs more.
+    pub fn link_with(self, t: &[u8; 256], text: &[u8]) -> Link
+        requires { ⌜ now t ≡ table ⌝ }
+        ensures { λ r. ⌜ r ≡ linkAt (now (text .entry)) (self .next .at) ⌝ }
+    {
+        let from = self.next.at;
+        let k = inside_end(t, text, from);
+        let b = byte_at(text, k);
+        if b == 33 {
+            if adjoins(t, text, k) {
+                return no_link();
+            }
+            return meta_link(text, k);
+        }
+        no_link()
+    }
+
+    // The place past the byte b where that is the next one after white space; 0 where it is not.
+    pub fn byte_with(self, t: &[u8; 256], text: &[u8], b: u8) -> usize
+        requires { ⌜ (now t ≡ table) × (0 < b) ⌝ }
+        ensures { λ r. ⌜ r ≡ byteEnd (now (text .entry)) b (self .next .at) ⌝ }
+    {
+        let from = self.next.at;
+        let k = span(t, text, from, 1, 1);
+        let c = byte_at(text, k);
+        if c == b {
+            return k + 1;
+        }
+        0
     }
 
     pub fn next(self, text: &[u8]) -> Step

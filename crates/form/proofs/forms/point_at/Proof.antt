@@ -1,10 +1,11 @@
 use Rattle.form.specs.Forms.{pointAt}
+use Rattle.lexis.proofs.Links.{open-special}
 use borrow.Author.Needs.{needs}
 use Rattle.form.proofs.forms.point_at.Statement.{statement}
 use Rattle.form.proofs.forms.point_at.Tie as tie
 
 mark-at-requires : tie.Need-mark-at-requires
-mark-at-requires c κs = c .before .pre
+mark-at-requires c κs = (c .before .pre, open-special)
 
 enum-known-g : tie.Need-enum-known-g
 enum-known-g c = search needs

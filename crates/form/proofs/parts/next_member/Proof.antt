@@ -1,35 +1,23 @@
-use Rattle.form.specs.Parts.{nextMember}
+use mathlib.Core.Path.{sym}
+use Rattle.form.proofs.Shorts.{member-short}
 use borrow.Author.Needs.{needs}
 use Rattle.form.proofs.parts.next_member.Statement.{statement}
 use Rattle.form.proofs.parts.next_member.Tie as tie
 
-inside-with-requires : tie.Need-inside-with-requires
-inside-with-requires c κs = search needs
-
-enum-known-g : tie.Need-enum-known-g
-enum-known-g c = search needs
-
-enum-known-token : tie.Need-enum-known-token
-enum-known-token c = search needs
-
-membered-requires : tie.Need-membered-requires
-membered-requires c κs = search needs
+link-with-requires : tie.Need-link-with-requires
+link-with-requires c κs = search needs
 
 returns : tie.Need-returns
-unfolding nextMember
-returns c = rw (← c .before .before .before .inside-with .ensures, c .before .g .given .1)
+returns c =
+    let a = c .before .before .before .args in
+    let l = c .before .link-with in
+    sym (member-short (a .text .now) (a .reader .next .at) (l .result) (l .ensures) (c .if1 .taken))
+
+member-by-requires : tie.Need-member-by-requires
+member-by-requires c κs = search needs
 
 returns-2 : tie.Need-returns-2
-unfolding nextMember
-returns-2 c = rw (← c .before .before .before .before .inside-with .ensures, c .before .before .token .given .1) (c .membered .ensures)
+returns-2 c = search needs
 
 pub next-member-spec : {M : Type 1} → statement M
-next-member-spec =
-    tie.close
-    (tie.spec
-    inside-with-requires
-    enum-known-g
-    enum-known-token
-    membered-requires
-    returns
-    returns-2)
+next-member-spec = tie.close (tie.spec link-with-requires returns member-by-requires returns-2)
