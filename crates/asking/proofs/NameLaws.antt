@@ -11,12 +11,14 @@ use Rattle.ground.specs.Choice.{pick}
 use Rattle.ground.specs.Lists.{joined}
 use Rattle.ground.specs.Regions.{zeros, pad}
 use Rattle.ground.specs.Text.{same}
-use Rattle.ground.proofs.Bools.{bool-cases}
+use Rattle.ground.proofs.Bools.{bool-cases, never-both}
 use Rattle.lexis.specs.Pieces.{decoded}
+use Rattle.lexis.specs.declared.decode.Meant.{Meant}
+use Rattle.lexis.proofs.Strings.{next-meant, raw-next}
 use Rattle.netlist.specs.Rules.{taken, ioNames, namesAs}
 use Rattle.saying.specs.Notes.{IoNote, CellNote, ioNote, cellNote, iosSaid, cellsSaid, Spells, SpellIos, SpellCells, more}
-use Rattle.asking.specs.Namesakes.{someRow, namesake, ioNamesake, cellNamesake, Sized, IosNoted, CellsNoted}
-use Rattle.asking.proofs.RowLaws.{notes-room, behind-note, some-step}
+use Rattle.asking.specs.Namesakes.{sameRaw, someRow, namesake, ioNamesake, cellNamesake, Sized, IosNoted, CellsNoted, Passes}
+use Rattle.asking.proofs.RowLaws.{notes-room, behind-note, some-step, row-miss, row-first}
 
 -- two strings with a first byte each
 module _ (a b s t : List ℕ) (x y : ℕ) (p : a ≡ x ∷ s) (q : b ≡ y ∷ t) where
@@ -27,6 +29,22 @@ module _ (a b s t : List ℕ) (x y : ℕ) (p : a ≡ x ∷ s) (q : b ≡ y ∷ t
   pub same-off : (x ≡ y → ⊥) → false ≡ same a b
   unfolding same
   same-off e = rw (p, q) (rw (ne-eqb x y e, same))
+
+-- .. by bytes that mean themselves
+pub record Raw (text : List ℕ) (i j : ℕ) : Type 0 where
+  pub first : decoded text i ≡ getD text i 0 ∷ decoded text (i + 1)
+  pub second : decoded text j ≡ getD text j 0 ∷ decoded text (j + 1)
+  pub alike : getD text i 0 ≡ getD text j 0
+
+raw-behind : (text : List ℕ) (i : ℕ) → 0 < length (decoded text i) → (getD text i 0 ≡ 92 → ⊥) → decoded text i ≡ getD text i 0 ∷ decoded text (i + 1)
+raw-behind text i h n = next-meant text i h (record { byte = getD text i 0; end = i + 1 }) (raw-next text i h n)
+
+pub same-raw : (text : List ℕ) (i j : ℕ) → 0 < length (decoded text i) → 0 < length (decoded text j) → sameRaw text i j ≡ true → Raw text i j
+same-raw text i j h l e = bool-cases (eqb (getD text i 0) 92)
+    (λ z. never-both (rw z at e) refl)
+    (λ z. let q : getD text i 0 ≡ getD text j 0 = eqb-true _ _ (rw z at e) in
+    let n : getD text i 0 ≡ 92 → ⊥ = eqb-false (getD text i 0) 92 z in
+    record { first = raw-behind text i h n; second = raw-behind text j l (λ o. n (q ∙ o)); alike = q })
 
 pub same-none : (a b : List ℕ) → length a ≡ 0 → length b ≡ 0 → true ≡ same a b
 unfolding same
@@ -130,3 +148,16 @@ cell-row {text} {cells} {n} h i l = (
 pub cell-found : (text cells : List ℕ) (n kind from size : ℕ) → size ≡ length (decoded text from) → (ns : List CellNote) → cells ≡ pad 4608 (joined cellNote ns) → n ≡ length ns → SpellCells text ns → someRow 9 (cellNamesake text kind from size) n cells ≡ taken (decoded text from) (namesAs kind (cellsSaid ns))
 unfolding pad
 cell-found text cells n kind from size e ns r l s = rw (r, l) (cell-taken text (zeros (4608 - length (joined cellNote ns))) kind from size e ns s)
+
+pub cells-room : {text cells : List ℕ} {n : ℕ} → CellsNoted text cells n → n * 9 ≤ length cells
+cells-room {text} {cells} {n} h = omega (arith, notes-room cellNote 9 cellNote-wide (h .notes) 4608 cells (h .rows), h .count)
+
+-- ROWS OF OTHER KINDS are passed
+pub passes-none : (kind n row : ℕ) (cells : List ℕ) → Passes kind n row row cells
+passes-none kind n row cells = record { finds = λ text from size. refl }
+
+pub passes-more : (kind n row i : ℕ) (cells : List ℕ) → i < n → (getD cells (i * 9) 0 ≡ kind → ⊥) → Passes kind n row i cells → Passes kind n row (i + 1) cells
+unfolding cellNamesake
+passes-more kind n row i cells h other p = record {
+  finds = λ text from size. row-miss 9 (cellNamesake text kind from size) n i cells h (rw (row-first, ne-eqb _ _ other)) ∙ p .finds text from size;
+}

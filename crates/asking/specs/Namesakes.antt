@@ -3,7 +3,7 @@
 use mathlib.Core.Path.{_≡_}
 use mathlib.Core.Bool.{Bool, true, false}
 use mathlib.Core.List.{List}
-use Prim.Native.Nat.{ℕ, zero, suc}
+use Prim.Native.Nat.{ℕ, zero, suc, _-_, _*_}
 use lib.Dec.{eqb}
 use lib.ListN.{length, drop, getD}
 use Rattle.ground.specs.Choice.{pick}
@@ -12,6 +12,10 @@ use Rattle.ground.specs.Regions.{pad}
 use Rattle.ground.specs.Text.{same}
 use Rattle.lexis.specs.Pieces.{decoded}
 use Rattle.saying.specs.Notes.{IoNote, CellNote, ioNote, cellNote, SpellIos, SpellCells}
+
+-- whether the same byte stands at two places of the text, one that means itself
+abbrev pub sameRaw : List ℕ → ℕ → ℕ → Bool
+sameRaw text i j = pick (eqb (getD text i 0) 92) false (eqb (getD text i 0) (getD text j 0))
 
 -- whether one of the first n rows, of w words each, passes the test of a row
 unfoldable pub someRow : ℕ → (List ℕ → Bool) → ℕ → List ℕ → Bool
@@ -48,3 +52,7 @@ pub record CellsNoted (text cells : List ℕ) (n : ℕ) : Type 0 where
   pub rows : cells ≡ pad 4608 (joined cellNote notes)
   pub count : n ≡ length notes
   pub names : SpellCells text notes
+
+-- no cell of the kind stands in the rows between: those from the row r on find what those from `row` on find
+pub record Passes (kind n row r : ℕ) (cells : List ℕ) : Type 0 where
+  pub finds : (text : List ℕ) (from size : ℕ) → someRow 9 (cellNamesake text kind from size) (n - r) (drop (r * 9) cells) ≡ someRow 9 (cellNamesake text kind from size) (n - row) (drop (row * 9) cells)

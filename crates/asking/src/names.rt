@@ -1,7 +1,7 @@
 // Names declared twice: a name of the text beside those of the noted rows.
 ghost use mathlib.Core.Path.{_≡_};
 ghost use mathlib.Core.List.{List};
-ghost use Prim.Native.Nat.{_+_, _*_, _≤_};
+ghost use Prim.Native.Nat.{_+_, _*_, _<_, _≤_};
 ghost use lib.ListN.{length, drop, getD};
 ghost use Rattle.ground.specs.Lists.{joined};
 ghost use Rattle.ground.specs.Regions.{pad};
@@ -9,11 +9,23 @@ ghost use Rattle.ground.specs.Text.{same};
 ghost use Rattle.lexis.specs.Pieces.{decoded};
 ghost use Rattle.netlist.specs.Rules.{taken, ioNames, namesAs};
 ghost use Rattle.saying.specs.Notes.{IoNote, CellNote, ioNote, cellNote, iosSaid, cellsSaid, SpellIos, SpellCells};
-ghost use Rattle.asking.specs.Namesakes.{namesake, ioNamesake, cellNamesake, Sized, IosNoted, CellsNoted};
+ghost use Rattle.asking.specs.Namesakes.{sameRaw, namesake, ioNamesake, cellNamesake, Sized, IosNoted, CellsNoted, Passes};
 use crate::word_at;
 use lexis::decode::next_byte;
 
-// Whether two strings of the text that mean `size` bytes each mean the same.
+// Whether two places of the text hold the same byte, one that means itself.
+fn same_raw(text: &[u8], i: usize, j: usize) -> bool
+    requires { ⌜ (i < length (now text)) × (j < length (now text)) ⌝ }
+    ensures { λ r. ⌜ r ≡ sameRaw (now (text .entry)) i j ⌝ }
+{
+    let b = text[i];
+    if b == 92 {
+        return false;
+    }
+    b == text[j]
+}
+
+// Whether two strings of the text that mean `size` bytes each mean the same. Most bytes mean themselves.
 pub fn same_string(text: &[u8], a: usize, b: usize, size: usize) -> bool
     requires { ⌜ (size ≡ length (decoded (now text) a)) × (size ≡ length (decoded (now text) b)) ⌝ }
     ensures { λ r. ⌜ r ≡ same (decoded (now (text .entry)) a) (decoded (now (text .entry)) b) ⌝ }
@@ -22,6 +34,12 @@ pub fn same_string(text: &[u8], a: usize, b: usize, size: usize) -> bool
     let mut i = a;
     let mut j = b;
     while 0 < left {
+        if same_raw(text, i, j) {
+            i += 1;
+            j += 1;
+            left -= 1;
+            continue;
+        }
         let x = next_byte(text, i);
         let y = next_byte(text, j);
         if x.byte != y.byte {
@@ -86,17 +104,35 @@ fn cell_named(text: &[u8], cells: &[u32], i: usize, kind: u8, from: usize, size:
     false
 }
 
+// The first of n noted cells that is of the kind, from the row on; n where none is. Most cells are of other kinds, so these have a
+// loop of their own.
+fn next_of_kind(cells: &[u32], row: usize, n: usize, kind: u8) -> usize
+    requires { ⌜ (row ≤ n) × (n * 9 ≤ length (now cells)) ⌝ }
+    ensures { λ r. ⌜ (row ≤ r) × (r ≤ n) × Passes kind n row r (now (cells .entry)) ⌝ }
+{
+    let mut i = row;
+    let mut at = row * 9;
+    while i < n {
+        if cells[at] == (kind as u32) {
+            return i;
+        }
+        i += 1;
+        at += 9;
+    }
+    i
+}
+
 // Whether one of the first n noted cells is of the kind and has the name.
 pub fn cell_taken(text: &[u8], cells: &[u32], n: usize, kind: u8, from: usize, size: usize) -> bool
     requires { ⌜ CellsNoted (now text) (now cells) n × (size ≡ length (decoded (now text) from)) ⌝ }
     ensures { λ r. ⌜ ((ns : List CellNote) → now (cells .entry) ≡ pad 4608 (joined cellNote ns) → n ≡ length ns → SpellCells (now (text .entry)) ns → r ≡ taken (decoded (now (text .entry)) from) (namesAs kind (cellsSaid ns))) ⌝ }
 {
-    let mut i = 0;
+    let mut i = next_of_kind(cells, 0, n, kind);
     while i < n {
         if cell_named(text, cells, i, kind, from, size) {
             return true;
         }
-        i += 1;
+        i = next_of_kind(cells, i + 1, n, kind);
     }
     false
 }
