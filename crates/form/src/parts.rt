@@ -26,7 +26,7 @@ ghost use Rattle.lexis.specs.declared.Step.the-variants.{Took};
 ghost use Rattle.form.specs.Parts.{isPart, str, baseOf, partOf, baseWidth, partWidth, widest, Narrow, refusedPart, partedOf, nextPart, concatEnd, concatAt, closedOperand, operandFrom, operandAt, ref, memberedOf, nextMember, setEnd, setAt};
 
 // The special character before a place, as it is taken.
-pub fn mark_before(b: u8, end: usize) -> Step
+pub(crate) fn mark_before(b: u8, end: usize) -> Step
     requires { ⌜ 0 < end ⌝ }
     ensures { λ r. ⌜ r ≡ took (plain 2 (end - 1) b 0 0) end ⌝ }
 {

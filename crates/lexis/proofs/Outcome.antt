@@ -4,7 +4,8 @@ use mathlib.Core.List.{List}
 use Prim.Native.Nat.{ℕ}
 use Rattle.ground.proofs.Outcome.{any-two}
 use Rattle.lexis.specs.Bytes.{classOf, table}
-use Rattle.lexis.specs.Tokens.{tokenAt, insideAt}
+use Rattle.lexis.specs.Tokens.{tokenAt, insideAt, linkAt, byteEnd}
+use Rattle.lexis.specs.declared.Link.{Link}
 use Rattle.lexis.specs.declared.Step.{Step}
 
 pub classes-one : (o p : List ℕ) → o ≡ table → p ≡ table → o ≡ p
@@ -19,3 +20,10 @@ next-one text k = any-two (tokenAt text) k
 
 pub inside-one : (text : List ℕ) (k : ℕ) (o p : Step) → o ≡ insideAt text k → p ≡ insideAt text k → o ≡ p
 inside-one text k = any-two (insideAt text) k
+
+-- what is read without a token
+pub link-one : (text : List ℕ) (k : ℕ) (o p : Link) → o ≡ linkAt text k → p ≡ linkAt text k → o ≡ p
+link-one text k = any-two (linkAt text) k
+
+pub byte-one : (text : List ℕ) (b k o p : ℕ) → o ≡ byteEnd text b k → p ≡ byteEnd text b k → o ≡ p
+byte-one text b k = any-two (byteEnd text b) k
