@@ -2,8 +2,7 @@
 use super::lent::least;
 use super::lent::put_bit;
 ghost use mathlib.Core.Path.{_≡_};
-ghost use mathlib.Core.Bool.{Bool};
-ghost use mathlib.Core.List.{List, [], _∷_};
+ghost use mathlib.Core.List.{[], _∷_};
 ghost use lib.Seq.{sets};
 ghost use Rattle.ground.specs.Choice.{pick};
 ghost use Rattle.trit.specs.Wide.{clash, agree, eqBit, ultBit, sltBit};

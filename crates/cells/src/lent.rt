@@ -1,8 +1,8 @@
 // Lent slices: the shorter of two lengths, a copy, one bit put at the front.
 ghost use mathlib.Core.Path.{_≡_};
-ghost use mathlib.Core.List.{List, [], _∷_};
-ghost use Prim.Native.Nat.{ℕ, min};
-ghost use lib.ListN.{length, replicate};
+ghost use mathlib.Core.List.{[], _∷_};
+ghost use Prim.Native.Nat.{min};
+ghost use lib.ListN.{replicate};
 ghost use lib.Seq.{sets};
 
 pub(crate) fn least(a: usize, b: usize) -> usize

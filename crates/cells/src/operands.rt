@@ -2,8 +2,8 @@
 // values 0 is read, and bits that the room has no place for are dropped and counted.
 use super::lent::least;
 ghost use mathlib.Core.Path.{_≡_};
-ghost use mathlib.Core.List.{List, reverse};
-ghost use Prim.Native.Nat.{ℕ, _+_, _-_, _*_, _<_, _≤_, min};
+ghost use mathlib.Core.List.{reverse};
+ghost use Prim.Native.Nat.{_+_, _-_, _*_, _<_, _≤_, min};
 ghost use lib.ListN.{drop, getD};
 ghost use Rattle.ground.specs.Regions.{part};
 ghost use Rattle.ground.specs.Writes.{Put};

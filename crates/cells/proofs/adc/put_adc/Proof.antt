@@ -55,7 +55,10 @@ loop-less : tie.Need-loop-less Inv-loop μ-loop
 loop-less c = search needs
 
 loop-again : tie.Need-loop-again Inv-loop μ-loop
-loop-again c = let l = c .before .before .before .before .before .before .before .before in let a = c .before .before .before .before .before .before .before .before .before .before .before .before .before .before .args in (l .loop .inv .0, turn (l .loop .inv .1) (rw (← c .carry3 .ensures) at (places.adc-go (a .a .now) (a .b .now) (l .loop .i) (omega (arith, l .loop .inv .0)) (omega (arith, l .loop .inv .0)) (l .loop .carry))) (rw (c .before .before .before .before .xor3 .ensures) at (c .before .before .before .xor32 .ensures)))
+loop-again c =
+    let l = c .before .before .before .before .before .before .before .before in
+    let a = c .before .before .before .before .before .before .before .before .before .before .before .before .before .before .args in
+    (l .loop .inv .0, turn (l .loop .inv .1) (rw (← c .carry3 .ensures) at (places.adc-go (a .a .now) (a .b .now) (l .loop .i) (omega (arith, l .loop .inv .0)) (omega (arith, l .loop .inv .0)) (l .loop .carry))) (rw (c .before .before .before .before .xor3 .ensures) at (c .before .before .before .xor32 .ensures)))
 
 same-length : tie.Need-same-length Inv-loop μ-loop
 same-length c = c .before .before .loop .inv .1 .long
@@ -70,7 +73,10 @@ same-length-2 : tie.Need-same-length-2 Inv-loop μ-loop
 same-length-2 c = search needs
 
 returns-2 : tie.Need-returns-2 Inv-loop μ-loop
-returns-2 c = let l = c .before .before in let a = c .before .before .before .before .before .before .before .before .args in ended (turn (l .loop .inv .1) (places.adc-end (a .a .now) (a .b .now) (l .loop .i) (omega (arith, l .loop .inv .0, l .loop .inv .1 .long, c .if1 .left, c .before .loop-test .left)) (l .loop .carry)) refl) refl
+returns-2 c =
+    let l = c .before .before in
+    let a = c .before .before .before .before .before .before .before .before .args in
+    ended (turn (l .loop .inv .1) (places.adc-end (a .a .now) (a .b .now) (l .loop .i) (omega (arith, l .loop .inv .0, l .loop .inv .1 .long, c .if1 .left, c .before .loop-test .left)) (l .loop .carry)) refl) refl
 
 pub put-adc-spec : {M : Type 1} → statement M
 put-adc-spec =

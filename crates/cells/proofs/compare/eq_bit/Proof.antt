@@ -30,7 +30,10 @@ clashes-requires : tie.Need-clashes-requires Inv-loop μ-loop
 clashes-requires c κs = search needs
 
 returns : tie.Need-returns Inv-loop μ-loop
-returns c = let l = c .before .before .before .before .before in let a = c .before .before .before .before .before .before .before .before .before .args in sym (places.eq-stop (a .a .now) (a .b .now) (l .loop .i) (l .loop .told) (omega (arith, l .loop .inv .0)) (omega (arith, l .loop .inv .0)) (sym (c .before .clashes .ensures) ∙ c .if1 .taken)) ∙ l .loop .inv .1
+returns c =
+    let l = c .before .before .before .before .before in
+    let a = c .before .before .before .before .before .before .before .before .before .args in
+    sym (places.eq-stop (a .a .now) (a .b .now) (l .loop .i) (l .loop .told) (omega (arith, l .loop .inv .0)) (omega (arith, l .loop .inv .0)) (sym (c .before .clashes .ensures) ∙ c .if1 .taken)) ∙ l .loop .inv .1
 
 shared-slice-read-told-at : tie.Need-shared-slice-read-told-at Inv-loop μ-loop
 shared-slice-read-told-at c = search needs
@@ -48,10 +51,16 @@ loop-less : tie.Need-loop-less Inv-loop μ-loop
 loop-less c = search needs
 
 loop-again : tie.Need-loop-again Inv-loop μ-loop
-loop-again c = let l = c .before .before .before .before .before .before .before .before in let a = c .before .before .before .before .before .before .before .before .before .before .before .before .args in (l .loop .inv .0, rw (c .told-at .ensures) (sym (places.eq-go (a .a .now) (a .b .now) (l .loop .i) (l .loop .told) (omega (arith, l .loop .inv .0)) (omega (arith, l .loop .inv .0)) (sym (c .before .before .before .before .clashes .ensures) ∙ c .before .before .before .if1 .left)) ∙ l .loop .inv .1))
+loop-again c =
+    let l = c .before .before .before .before .before .before .before .before in
+    let a = c .before .before .before .before .before .before .before .before .before .before .before .before .args in
+    (l .loop .inv .0, rw (c .told-at .ensures) (sym (places.eq-go (a .a .now) (a .b .now) (l .loop .i) (l .loop .told) (omega (arith, l .loop .inv .0)) (omega (arith, l .loop .inv .0)) (sym (c .before .before .before .before .clashes .ensures) ∙ c .before .before .before .if1 .left)) ∙ l .loop .inv .1))
 
 returns-2 : tie.Need-returns-2 Inv-loop μ-loop
-returns-2 c = let l = c .before in let a = c .before .before .before .before .before .args in sym (places.eq-end (a .a .now) (a .b .now) (l .loop .i) (l .loop .told) (omega (arith, l .loop .inv .0))) ∙ l .loop .inv .1
+returns-2 c =
+    let l = c .before in
+    let a = c .before .before .before .before .before .args in
+    sym (places.eq-end (a .a .now) (a .b .now) (l .loop .i) (l .loop .told) (omega (arith, l .loop .inv .0))) ∙ l .loop .inv .1
 
 pub eq-bit-spec : {M : Type 1} → statement M
 eq-bit-spec =

@@ -46,10 +46,16 @@ loop-less : tie.Need-loop-less Inv-loop μ-loop
 loop-less c = search needs
 
 loop-again : tie.Need-loop-again Inv-loop μ-loop
-loop-again c = let l = c .before .before .before .before .before in let a = c .before .before .before .before .before .before .before .before .before .before .args in (omega arith, l .loop .inv .1, l .loop .inv .2, rw (c .carry3 .ensures, c .before .before .not3 .ensures) (sym (places.slt-go (a .a .now) (a .b .now) (l .loop .i) (l .loop .below) (omega (arith, l .loop .inv)) (omega (arith, l .loop .inv))) ∙ l .loop .inv .3))
+loop-again c =
+    let l = c .before .before .before .before .before in
+    let a = c .before .before .before .before .before .before .before .before .before .before .args in
+    (omega arith, l .loop .inv .1, l .loop .inv .2, rw (c .carry3 .ensures, c .before .before .not3 .ensures) (sym (places.slt-go (a .a .now) (a .b .now) (l .loop .i) (l .loop .below) (omega (arith, l .loop .inv)) (omega (arith, l .loop .inv))) ∙ l .loop .inv .3))
 
 returns-2 : tie.Need-returns-2 Inv-loop μ-loop
-returns-2 c = let l = c .before .before in let a = c .before .before .before .before .before .before .before .args in sym (places.slt-end (a .a .now) (a .b .now) (l .loop .i) (l .loop .below) (omega (arith, l .loop .inv, c .if2 .taken, c .before .loop-test .left))) ∙ l .loop .inv .3
+returns-2 c =
+    let l = c .before .before in
+    let a = c .before .before .before .before .before .before .before .args in
+    sym (places.slt-end (a .a .now) (a .b .now) (l .loop .i) (l .loop .below) (omega (arith, l .loop .inv, c .if2 .taken, c .before .loop-test .left))) ∙ l .loop .inv .3
 
 shared-slice-read-carry3-2 : tie.Need-shared-slice-read-carry3-2 Inv-loop μ-loop
 shared-slice-read-carry3-2 c = search needs
@@ -64,7 +70,11 @@ carry3-requires-2 : tie.Need-carry3-requires-2 Inv-loop μ-loop
 carry3-requires-2 c κs = search needs
 
 returns-3 : tie.Need-returns-3 Inv-loop μ-loop
-returns-3 c = let l = c .before .before .before .before .before .before in let a = c .before .before .before .before .before .before .before .before .before .before .before .args in let e : length (a .a .now) - 1 ≡ l .loop .i = omega (arith, l .loop .inv, c .before .before .before .before .if2 .left, c .before .before .before .before .before .loop-test .left) in c .carry32 .ensures ∙ rw (c .before .not32 .ensures, e) (sym (places.slt-top (a .a .now) (a .b .now) (l .loop .i) (l .loop .below) (omega (arith, l .loop .inv)) (omega (arith, l .loop .inv, c .before .before .before .before .if2 .left))) ∙ l .loop .inv .3)
+returns-3 c =
+    let l = c .before .before .before .before .before .before in
+    let a = c .before .before .before .before .before .before .before .before .before .before .before .args in
+    let e : length (a .a .now) - 1 ≡ l .loop .i = omega (arith, l .loop .inv, c .before .before .before .before .if2 .left, c .before .before .before .before .before .loop-test .left) in
+    c .carry32 .ensures ∙ rw (c .before .not32 .ensures, e) (sym (places.slt-top (a .a .now) (a .b .now) (l .loop .i) (l .loop .below) (omega (arith, l .loop .inv)) (omega (arith, l .loop .inv, c .before .before .before .before .if2 .left))) ∙ l .loop .inv .3)
 
 pub slt-bit-spec : {M : Type 1} → statement M
 slt-bit-spec =

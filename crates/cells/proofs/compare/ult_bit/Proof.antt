@@ -40,10 +40,16 @@ loop-less : tie.Need-loop-less Inv-loop μ-loop
 loop-less c = search needs
 
 loop-again : tie.Need-loop-again Inv-loop μ-loop
-loop-again c = let l = c .before .before .before .before .before in let a = c .before .before .before .before .before .before .before .before .before .args in (l .loop .inv .0, rw (c .carry3 .ensures, c .before .before .not3 .ensures) (sym (places.ult-go (a .a .now) (a .b .now) (l .loop .i) (omega (arith, l .loop .inv .0)) (omega (arith, l .loop .inv .0)) (l .loop .below)) ∙ l .loop .inv .1))
+loop-again c =
+    let l = c .before .before .before .before .before in
+    let a = c .before .before .before .before .before .before .before .before .before .args in
+    (l .loop .inv .0, rw (c .carry3 .ensures, c .before .before .not3 .ensures) (sym (places.ult-go (a .a .now) (a .b .now) (l .loop .i) (omega (arith, l .loop .inv .0)) (omega (arith, l .loop .inv .0)) (l .loop .below)) ∙ l .loop .inv .1))
 
 returns : tie.Need-returns Inv-loop μ-loop
-returns c = let l = c .before in let a = c .before .before .before .before .before .args in sym (places.ult-end (a .a .now) (a .b .now) (l .loop .i) (omega (arith, l .loop .inv .0)) (l .loop .below)) ∙ l .loop .inv .1
+returns c =
+    let l = c .before in
+    let a = c .before .before .before .before .before .args in
+    sym (places.ult-end (a .a .now) (a .b .now) (l .loop .i) (omega (arith, l .loop .inv .0)) (l .loop .below)) ∙ l .loop .inv .1
 
 pub ult-bit-spec : {M : Type 1} → statement M
 ult-bit-spec =

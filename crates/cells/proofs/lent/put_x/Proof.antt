@@ -30,13 +30,18 @@ loop-less : tie.Need-loop-less Inv-loop μ-loop
 loop-less c = search needs
 
 loop-again : tie.Need-loop-again Inv-loop μ-loop
-loop-again c = let l = c .before in let a = c .before .before .before .before .args in (l .loop .inv .0, turn (l .loop .inv .1) (places.x-go (a .size) (l .loop .i) (omega (arith, l .loop .inv .0))) refl)
+loop-again c =
+    let l = c .before in
+    let a = c .before .before .before .before .args in
+    (l .loop .inv .0, turn (l .loop .inv .1) (places.x-go (a .size) (l .loop .i) (omega (arith, l .loop .inv .0))) refl)
 
 same-length : tie.Need-same-length Inv-loop μ-loop
 same-length c = c .before .loop .inv .1 .long
 
 returns : tie.Need-returns Inv-loop μ-loop
-returns c = let a = c .before .before .before .before .args in done (a .size) (c .before .loop .inv .1) (omega (arith, c .before .loop .inv .0)) (places.x-end (a .size) (c .before .loop .i))
+returns c =
+    let a = c .before .before .before .before .args in
+    done (a .size) (c .before .loop .inv .1) (omega (arith, c .before .loop .inv .0)) (places.x-end (a .size) (c .before .loop .i))
 
 pub put-x-spec : {M : Type 1} → statement M
 put-x-spec =

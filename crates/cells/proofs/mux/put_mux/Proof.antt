@@ -22,7 +22,9 @@ same-length-2 c = search needs
 
 returns-2 : tie.Need-returns-2
 unfolding muxBits
-returns-2 c = let s = c .before .before .before .before .before .before .before .before .before .args .s in rw (ne-eqb s 1 (c .before .before .before .before .before .if1 .left), eq-eqb s 0 (c .before .before .before .before .if2 .taken)) (c .before .before .copy2 .ensures)
+returns-2 c =
+    let s = c .before .before .before .before .before .before .before .before .before .args .s in
+    rw (ne-eqb s 1 (c .before .before .before .before .before .if1 .left), eq-eqb s 0 (c .before .before .before .before .if2 .taken)) (c .before .before .copy2 .ensures)
 
 put-x-requires : tie.Need-put-x-requires
 put-x-requires c κs = search needs
@@ -32,7 +34,9 @@ same-length-3 c = search needs
 
 returns-3 : tie.Need-returns-3
 unfolding muxBits
-returns-3 c = let s = c .before .before .before .before .before .before .before .before .before .args .s in rw (ne-eqb s 1 (c .before .before .before .before .before .if1 .left), ne-eqb s 0 (c .before .before .before .before .if2 .left)) (c .before .before .put-x .ensures)
+returns-3 c =
+    let s = c .before .before .before .before .before .before .before .before .before .args .s in
+    rw (ne-eqb s 1 (c .before .before .before .before .before .if1 .left), ne-eqb s 0 (c .before .before .before .before .if2 .left)) (c .before .before .put-x .ensures)
 
 pub put-mux-spec : {M : Type 1} → statement M
 put-mux-spec =

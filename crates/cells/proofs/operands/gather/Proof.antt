@@ -21,7 +21,9 @@ end-of-requires : tie.Need-end-of-requires Inv-loop μ-loop
 end-of-requires c κs = search needs
 
 loop-holds : tie.Need-loop-holds Inv-loop μ-loop
-loop-holds c = let a = c .before .before .before .before .before .before .args in (omega (arith, c .end-of .ensures), omega arith, c .end-of .ensures, omega arith, put-as (put-nothing _ _) (gather-none (heldBits (a .starts .now) (a .values .now)) (heldRuns (a .runs .now) (a .trits .now)) (c .end-of .result)))
+loop-holds c =
+    let a = c .before .before .before .before .before .before .args in
+    (omega (arith, c .end-of .ensures), omega arith, c .end-of .ensures, omega arith, put-as (put-nothing _ _) (gather-none (heldBits (a .starts .now) (a .values .now)) (heldRuns (a .runs .now) (a .trits .now)) (c .end-of .result)))
 
 sub-k : tie.Need-sub-k Inv-loop μ-loop
 sub-k c = search needs
@@ -33,13 +35,20 @@ loop-less : tie.Need-loop-less Inv-loop μ-loop
 loop-less c = omega (arith, c .before .before .before .before .loop-test .taken)
 
 loop-again : tie.Need-loop-again Inv-loop μ-loop
-loop-again c = let l = c .before .before .before .before .before in let a = c .before .before .before .before .before .before .before .before .before .before .before .before .args in let t = c .before .before .before .before .loop-test .taken in (omega (arith, t), omega (arith, l .loop .inv .1), l .loop .inv .2, omega (arith, t, l .loop .inv, c .before .before .put-run .ensures .1), put-as (put-then (l .loop .inv .4) (c .before .before .put-run .ensures .0)) (gather-go (heldBits (a .starts .now) (a .values .now)) (a .runs .now) (a .trits .now) (l .loop .k) (c .before .before .before .before .before .before .end-of .result) (omega (arith, t)) (l .loop .inv .1) (omega (arith, t, l .loop .inv))))
+loop-again c =
+    let l = c .before .before .before .before .before in
+    let a = c .before .before .before .before .before .before .before .before .before .before .before .before .args in
+    let t = c .before .before .before .before .loop-test .taken in
+    (omega (arith, t), omega (arith, l .loop .inv .1), l .loop .inv .2, omega (arith, t, l .loop .inv, c .before .before .put-run .ensures .1), put-as (put-then (l .loop .inv .4) (c .before .before .put-run .ensures .0)) (gather-go (heldBits (a .starts .now) (a .values .now)) (a .runs .now) (a .trits .now) (l .loop .k) (c .before .before .before .before .before .before .end-of .result) (omega (arith, t)) (l .loop .inv .1) (omega (arith, t, l .loop .inv))))
 
 same-length : tie.Need-same-length Inv-loop μ-loop
 same-length c = put-length (c .before .loop .inv .4)
 
 returns : tie.Need-returns Inv-loop μ-loop
-returns c = let l = c .before in let a = c .before .before .before .before .before .before .before .before .args in put-as (l .loop .inv .4) (gather-all (heldBits (a .starts .now) (a .values .now)) (a .runs .now) (a .trits .now) (a .from) (a .size) (l .loop .k) (c .before .before .end-of .result) (omega (arith, l .loop .inv .0, c .loop-test .left)) (l .loop .inv .2))
+returns c =
+    let l = c .before in
+    let a = c .before .before .before .before .before .before .before .before .args in
+    put-as (l .loop .inv .4) (gather-all (heldBits (a .starts .now) (a .values .now)) (a .runs .now) (a .trits .now) (a .from) (a .size) (l .loop .k) (c .before .before .end-of .result) (omega (arith, l .loop .inv .0, c .loop-test .left)) (l .loop .inv .2))
 
 pub gather-spec : {M : Type 1} → statement M
 gather-spec =

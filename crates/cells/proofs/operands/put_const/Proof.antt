@@ -21,7 +21,9 @@ wide-requires : tie.Need-wide-requires Inv-loop μ-loop
 wide-requires c κs = search needs
 
 returns : tie.Need-returns Inv-loop μ-loop
-returns c = let a = c .before .before .before .before .args in (gathering.put-as (put-nothing _ _) (gathering.const-none (a .trits .now) (a .start) (a .size) (omega (arith, c .if1 .taken, c .before .wide .ensures .0))), omega arith)
+returns c =
+    let a = c .before .before .before .before .args in
+    (gathering.put-as (put-nothing _ _) (gathering.const-none (a .trits .now) (a .start) (a .size) (omega (arith, c .if1 .taken, c .before .wide .ensures .0))), omega arith)
 
 wide-requires-2 : tie.Need-wide-requires-2 Inv-loop μ-loop
 wide-requires-2 c κs = search needs
@@ -42,7 +44,12 @@ least-requires-2 : tie.Need-least-requires-2 Inv-loop μ-loop
 least-requires-2 c κs = search needs
 
 loop-holds : tie.Need-loop-holds Inv-loop μ-loop
-loop-holds c = let a = c .before .before .before .before .before .before .before .args in let low = c .before .before .before .before .wide .result in let high = c .before .least .result in let e : high - low ≡ min (a .size) (length (a .trits .now) - low) = omega (arith, c .before .least .ensures, c .before .before .wide2 .ensures .0, c .before .before .before .if1 .left) in (c .least2 .ensures, omega arith, omega arith, omega arith, omega (arith, c .before .least .ensures, c .before .before .wide2 .ensures .0, c .before .before .before .if1 .left), omega (arith, c .before .least .ensures, c .before .before .wide2 .ensures .0, c .before .before .before .if1 .left), omega (arith, c .before .least .ensures, c .before .before .wide2 .ensures .0, c .before .before .before .if1 .left), rw (gathering.part-cut low (high - low) (a .size) (a .trits .now) e, c .before .before .before .before .wide .ensures .0) (start _ _ _))
+loop-holds c =
+    let a = c .before .before .before .before .before .before .before .args in
+    let low = c .before .before .before .before .wide .result in
+    let high = c .before .least .result in
+    let e : high - low ≡ min (a .size) (length (a .trits .now) - low) = omega (arith, c .before .least .ensures, c .before .before .wide2 .ensures .0, c .before .before .before .if1 .left) in
+    (c .least2 .ensures, omega arith, omega arith, omega arith, omega (arith, c .before .least .ensures, c .before .before .wide2 .ensures .0, c .before .before .before .if1 .left), omega (arith, c .before .least .ensures, c .before .before .wide2 .ensures .0, c .before .before .before .if1 .left), omega (arith, c .before .least .ensures, c .before .before .wide2 .ensures .0, c .before .before .before .if1 .left), rw (gathering.part-cut low (high - low) (a .size) (a .trits .now) e, c .before .before .before .before .wide .ensures .0) (start _ _ _))
 
 sub-k : tie.Need-sub-k Inv-loop μ-loop
 sub-k c = omega (arith, c .before .loop .inv)
@@ -60,13 +67,22 @@ loop-less : tie.Need-loop-less Inv-loop μ-loop
 loop-less c = omega (arith, c .before .loop-test .taken)
 
 loop-again : tie.Need-loop-again Inv-loop μ-loop
-loop-again c = let l = c .before .before in let a = c .before .before .before .before .before .before .before .before .before .before .args in let low = c .before .before .before .before .before .before .before .wide .result in (l .loop .inv .0, omega (arith, l .loop .inv), omega (arith, l .loop .inv), omega (arith, l .loop .inv), l .loop .inv .4, l .loop .inv .5, l .loop .inv .6, turn (l .loop .inv .7) (gathering.const-go (a .trits .now) low (l .loop .k) (omega (arith, l .loop .inv)) (omega (arith, l .loop .inv))) refl)
+loop-again c =
+    let l = c .before .before in
+    let a = c .before .before .before .before .before .before .before .before .before .before .args in
+    let low = c .before .before .before .before .before .before .before .wide .result in
+    (l .loop .inv .0, omega (arith, l .loop .inv), omega (arith, l .loop .inv), omega (arith, l .loop .inv), l .loop .inv .4, l .loop .inv .5, l .loop .inv .6, turn (l .loop .inv .7) (gathering.const-go (a .trits .now) low (l .loop .k) (omega (arith, l .loop .inv)) (omega (arith, l .loop .inv))) refl)
 
 same-length : tie.Need-same-length Inv-loop μ-loop
 same-length c = c .before .loop .inv .7 .long
 
 returns-2 : tie.Need-returns-2 Inv-loop μ-loop
-returns-2 c = let l = c .before in let a = c .before .before .before .before .before .before .before .before .before .args in let low = c .before .before .before .before .before .before .wide .result in let end = a .n + (c .before .before .before .least .result - low) in (record { next = rw (gathering.const-length (a .trits .now) (a .start) (a .size)) (omega (arith, c .before .before .before .least .ensures, c .before .before .before .before .wide2 .ensures .0, c .before .before .before .before .before .if1 .left, c .before .before .before .before .before .before .wide .ensures .0)); holds = done end (l .loop .inv .7) (omega (arith, l .loop .inv .0)) (λ h. gathering.const-end (a .trits .now) low (l .loop .k) (omega (arith, l .loop .inv))) }, omega (arith, c .before .before .before .least .ensures, c .before .before .before .before .wide2 .ensures))
+returns-2 c =
+    let l = c .before in
+    let a = c .before .before .before .before .before .before .before .before .before .args in
+    let low = c .before .before .before .before .before .before .wide .result in
+    let end = a .n + (c .before .before .before .least .result - low) in
+    (record { next = rw (gathering.const-length (a .trits .now) (a .start) (a .size)) (omega (arith, c .before .before .before .least .ensures, c .before .before .before .before .wide2 .ensures .0, c .before .before .before .before .before .if1 .left, c .before .before .before .before .before .before .wide .ensures .0)); holds = done end (l .loop .inv .7) (omega (arith, l .loop .inv .0)) (λ h. gathering.const-end (a .trits .now) low (l .loop .k) (omega (arith, l .loop .inv))) }, omega (arith, c .before .before .before .least .ensures, c .before .before .before .before .wide2 .ensures))
 
 pub put-const-spec : {M : Type 1} → statement M
 put-const-spec =

@@ -25,7 +25,10 @@ least-requires : tie.Need-least-requires Inv-loop μ-loop
 least-requires c κs = search needs
 
 loop-holds : tie.Need-loop-holds Inv-loop μ-loop
-loop-holds c = let a = c .before .before .before .before .args in let e : a .n + c .before .wide .result - a .n ≡ a .size = omega (arith, c .before .wide .ensures .0) in (c .least .ensures, omega arith, omega arith, omega arith, rw e (start _ _ _))
+loop-holds c =
+    let a = c .before .before .before .before .args in
+    let e : a .n + c .before .wide .result - a .n ≡ a .size = omega (arith, c .before .wide .ensures .0) in
+    (c .least .ensures, omega arith, omega arith, omega arith, rw e (start _ _ _))
 
 value-at-requires : tie.Need-value-at-requires Inv-loop μ-loop
 value-at-requires c κs = search needs
@@ -43,13 +46,20 @@ loop-less : tie.Need-loop-less Inv-loop μ-loop
 loop-less c = omega (arith, c .before .loop-test .taken)
 
 loop-again : tie.Need-loop-again Inv-loop μ-loop
-loop-again c = let l = c .before .before in let a = c .before .before .before .before .before .before .before .args in (l .loop .inv .0, omega (arith, l .loop .inv), omega (arith, l .loop .inv), omega (arith, l .loop .inv), turn (l .loop .inv .4) (gathering.rise-go (a .values .now) (l .loop .k) (a .n + c .before .before .before .before .wide .result) (l .loop .i) (omega (arith, l .loop .inv))) (c .value-at .ensures))
+loop-again c =
+    let l = c .before .before in
+    let a = c .before .before .before .before .before .before .before .args in
+    (l .loop .inv .0, omega (arith, l .loop .inv), omega (arith, l .loop .inv), omega (arith, l .loop .inv), turn (l .loop .inv .4) (gathering.rise-go (a .values .now) (l .loop .k) (a .n + c .before .before .before .before .wide .result) (l .loop .i) (omega (arith, l .loop .inv))) (c .value-at .ensures))
 
 same-length : tie.Need-same-length Inv-loop μ-loop
 same-length c = c .before .loop .inv .4 .long
 
 returns : tie.Need-returns Inv-loop μ-loop
-returns c = let l = c .before in let a = c .before .before .before .before .before .before .args in let end = a .n + c .before .before .before .wide .result in (record { next = rw (gathering.rise-length (a .values .now) (a .at) (a .size)) (omega (arith, c .before .before .before .wide .ensures .0)); holds = done end (l .loop .inv .4) (omega (arith, l .loop .inv .0)) (gathering.rise-end (a .values .now) (l .loop .k) end (l .loop .i)) }, omega (arith, c .before .before .before .wide .ensures .1))
+returns c =
+    let l = c .before in
+    let a = c .before .before .before .before .before .before .args in
+    let end = a .n + c .before .before .before .wide .result in
+    (record { next = rw (gathering.rise-length (a .values .now) (a .at) (a .size)) (omega (arith, c .before .before .before .wide .ensures .0)); holds = done end (l .loop .inv .4) (omega (arith, l .loop .inv .0)) (gathering.rise-end (a .values .now) (l .loop .k) end (l .loop .i)) }, omega (arith, c .before .before .before .wide .ensures .1))
 
 pub put-piece-spec : {M : Type 1} → statement M
 put-piece-spec =

@@ -36,7 +36,9 @@ same-length : tie.Need-same-length
 same-length c = search needs
 
 returns : tie.Need-returns
-returns c = let a = c .before .before .before .before .before .before .before .before .before .before .before .before .before .args in (put-as (c .before .before .put-const .ensures .0) (const-held (a .runs .now) (a .trits .now) (a .k * 3) (c .before .before .before .before .before .before .before .word-at .result) (c .before .before .before .before .before .before .word-at2 .result) (c .before .before .before .before .before .word-at3 .result) (c .before .before .before .before .before .before .before .word-at .ensures) (c .before .before .before .before .before .before .word-at2 .ensures) (c .before .before .before .before .before .word-at3 .ensures) (heldBits (a .starts .now) (a .values .now)) (c .before .before .before .before .if1 .taken)), c .before .before .put-const .ensures .1)
+returns c =
+    let a = c .before .before .before .before .before .before .before .before .before .before .before .before .before .args in
+    (put-as (c .before .before .put-const .ensures .0) (const-held (a .runs .now) (a .trits .now) (a .k * 3) (c .before .before .before .before .before .before .before .word-at .result) (c .before .before .before .before .before .before .word-at2 .result) (c .before .before .before .before .before .word-at3 .result) (c .before .before .before .before .before .before .before .word-at .ensures) (c .before .before .before .before .before .before .word-at2 .ensures) (c .before .before .before .before .before .word-at3 .ensures) (heldBits (a .starts .now) (a .values .now)) (c .before .before .before .before .if1 .taken)), c .before .before .put-const .ensures .1)
 
 sub-wide : tie.Need-sub-wide
 sub-wide c = search needs
@@ -63,7 +65,10 @@ same-length-2 : tie.Need-same-length-2
 same-length-2 c = search needs
 
 returns-2 : tie.Need-returns-2
-returns-2 c = let a = c .before .before .before .before .before .before .before .before .before .before .before .before .before .before .before .before .before .args in let p = rw (c .before .before .before .before .before .wide2 .ensures .0, c .before .before .before .before .wide3 .ensures .0) at (c .before .before .put-piece .ensures .0) in (put-as p (piece-held (a .runs .now) (a .trits .now) (a .k * 3) (c .before .before .before .before .before .before .before .before .before .before .before .word-at .result) (c .before .before .before .before .before .before .before .before .before .before .word-at2 .result) (c .before .before .before .before .before .before .before .before .before .word-at3 .result) (c .before .before .before .before .before .before .before .before .before .before .before .word-at .ensures) (c .before .before .before .before .before .before .before .before .before .before .word-at2 .ensures) (c .before .before .before .before .before .before .before .before .before .word-at3 .ensures) (a .starts .now) (a .values .now) (c .before .before .before .before .before .before .word-at4 .result) (rw (c .before .before .before .before .before .before .before .wide .ensures .0) at (c .before .before .before .before .before .before .word-at4 .ensures)) (c .before .before .before .before .before .before .before .before .if1 .left)), c .before .before .put-piece .ensures .1)
+returns-2 c =
+    let a = c .before .before .before .before .before .before .before .before .before .before .before .before .before .before .before .before .before .args in
+    let p = rw (c .before .before .before .before .before .wide2 .ensures .0, c .before .before .before .before .wide3 .ensures .0) at (c .before .before .put-piece .ensures .0) in
+    (put-as p (piece-held (a .runs .now) (a .trits .now) (a .k * 3) (c .before .before .before .before .before .before .before .before .before .before .before .word-at .result) (c .before .before .before .before .before .before .before .before .before .before .word-at2 .result) (c .before .before .before .before .before .before .before .before .before .word-at3 .result) (c .before .before .before .before .before .before .before .before .before .before .before .word-at .ensures) (c .before .before .before .before .before .before .before .before .before .before .word-at2 .ensures) (c .before .before .before .before .before .before .before .before .before .word-at3 .ensures) (a .starts .now) (a .values .now) (c .before .before .before .before .before .before .word-at4 .result) (rw (c .before .before .before .before .before .before .before .wide .ensures .0) at (c .before .before .before .before .before .before .word-at4 .ensures)) (c .before .before .before .before .before .before .before .before .if1 .left)), c .before .before .put-piece .ensures .1)
 
 pub put-run-spec : {M : Type 1} → statement M
 put-run-spec =
