@@ -16,8 +16,8 @@ use Rattle.graph.proofs.Ready.{Lowest, lowest-is, lowest-law}
 use Rattle.graph.proofs.Order.{unplaced, unplaced-same, unplaced-most, unplaced-place, order-on, order-stop}
 use Rattle.graph.proofs.Same.{Alike, order-from-alike, some-alike}
 use Rattle.placing.specs.InTables.{readsIn, apartIn, orderIn, ringIn, Inside, PlacedAll}
-use Rattle.placing.specs.Marks.{placedIn, firstOpen, waitedBy, onFrom, Looked, Going, left}
-use Rattle.placing.proofs.Marks.{open-row, open-none, Waited, waited, On, on-from, looked-none, looked-skip, wait-placed, looked-wait, place-placed, looked-place}
+use Rattle.placing.specs.Marks.{placedIn, firstOpen, waitedBy, onFrom, Waits, Waiting, noteOf, noted, Noted, Looked, Begun, Going, left}
+use Rattle.placing.proofs.Marks.{open-row, open-none, Waited, waited, On, on-from, looked-none, looked-skip, notes-none, wait-placed, waits-now, looked-wait, notes-wait, place-placed, placed-now, looked-place, notes-place, note-placed, looked-note, notes-note}
 
 -- a row placed last
 mem-last : (i r : ℕ) (xs : List ℕ) (b : Bool) → eqb i r || (b || mem i xs) ≡ b || mem i (xs ++ (r ∷ []))
@@ -51,38 +51,78 @@ module _ (cells runs : List ℕ) (n : ℕ) (inside : Inside cells runs n) where
   left-alike f P Q h = order-from-alike reads reads n (λ i l. refl) (inside .reads-there) f P Q h
 
   -- at the start the inputs and outputs are marked
-  pub going-start : (rows marks : List ℕ) → rows ≡ zeros 512 → length marks ≡ 512 → Alike (placedIn marks) (apartIn cells) n → Going cells runs n rows marks 0 0
+  pub going-start : (rows marks : List ℕ) → rows ≡ zeros 512 → Begun cells n marks → Going cells runs n rows marks 0 0
   unfolding mem orderIn order pad
-  going-start rows marks z l a = record {
+  going-start rows marks z h = record {
     so-far = [];
     rows-are = z;
     counted = refl;
-    long = l;
+    long = h .long;
     below = omega arith;
     looked = λ i k. absurd (omega arith);
-    marked = λ i k. a i k ∙ or-none (apartIn cells i);
+    notes = λ i k. notes-none reads marks i (h .unnoted i);
+    marked = λ i k. h .apart i k ∙ or-none (apartIn cells i);
     room = omega (arith, unplaced-most (placedIn marks) n);
-    rest = let e : n - 0 ≡ n = omega arith in rw e (left-alike n (placedIn marks) (apartIn cells) a);
+    rest = let e : n - 0 ≡ n = omega arith in rw e (left-alike n (placedIn marks) (apartIn cells) (h .apart));
   }
     where
       or-none : (b : Bool) → b ≡ b || false
       or-none true = refl
       or-none false = refl
 
+  -- a note changes no mark
+  going-note : {rows marks : List ℕ} {low count : ℕ} → Going cells runs n rows marks low count → (k x : ℕ) → k < n → x < 514 → (getD marks k 0 ≡ 1) ⊎ Waits reads marks k x
+      → Going cells runs n rows (set marks (514 + k) (x + 1)) low count
+  going-note {rows} {marks} {low} {count} g k x b m r =
+      let few = inside .few in
+      let there : 514 + k < length marks = omega (arith, g .long) in
+      let same : Alike (placedIn (set marks (514 + k) (x + 1))) (placedIn marks) n = λ i l. note-placed reads marks k x there i (omega arith) in
+      record {
+        so-far = g .so-far;
+        rows-are = g .rows-are;
+        counted = g .counted;
+        long = length-set marks (514 + k) (x + 1) ∙ g .long;
+        below = g .below;
+        looked = looked-note reads marks k x there low (omega (arith, g .below)) (λ i j l d. omega (arith, inside .reads-there i j (omega (arith, g .below)) d)) (g .looked);
+        notes = λ i l. notes-note reads marks k x there m r i (omega arith) (omega arith) (g .notes i l);
+        marked = λ i l. same i l ∙ g .marked i l;
+        room = omega (arith, g .room, unplaced-same (placedIn (set marks (514 + k) (x + 1))) (placedIn marks) n same);
+        rest = ap (λ (L : List ℕ). g .so-far ++ L) (left-alike (n - count) (placedIn (set marks (514 + k) (x + 1))) (placedIn marks) same) ∙ g .rest;
+      }
+
   module _ {rows marks : List ℕ} {low count : ℕ} (g : Going cells runs n rows marks low count) (l : low < n) where
-    -- a placed row is passed
-    pub going-skip : getD marks low 0 ≡ 1 → Going cells runs n rows marks (low + 1) count
-    going-skip e = record {
+    pub low-there : low < length marks
+    low-there = omega (arith, g .long, inside .few)
+
+    pub note-there : 514 + low < length marks
+    note-there = omega (arith, g .long, inside .few)
+
+    -- a row is passed
+    going-on : (getD marks low 0 ≡ 1) ⊎ Waiting reads marks low → Going cells runs n rows marks (low + 1) count
+    going-on e = record {
       so-far = g .so-far;
       rows-are = g .rows-are;
       counted = g .counted;
       long = g .long;
       below = omega arith;
       looked = looked-skip reads marks low (g .looked) e;
+      notes = g .notes;
       marked = g .marked;
       room = g .room;
       rest = g .rest;
     }
+
+    -- one that is placed
+    pub going-skip : getD marks low 0 ≡ 1 → Going cells runs n rows marks (low + 1) count
+    going-skip e = going-on (inl e)
+
+    -- one whose note still holds
+    pub going-still : (b : Bool) → b ≡ noted marks low → b ≡ true → Going cells runs n rows marks (low + 1) count
+    going-still b e t = going-on (go (g .notes low l .tells (sym e ∙ t)))
+      where
+        go : (getD marks low 0 ≡ 1) ⊎ Waits reads marks low (noteOf marks low - 1) → (getD marks low 0 ≡ 1) ⊎ Waiting reads marks low
+        go (inl q) = inl q
+        go (inr s) = inr (record { on = noteOf marks low - 1; waits = s })
 
     -- a row waits for one that it reads
     module _ (w : ℕ) (o : w ≡ firstOpen n (placedIn marks) (reads low)) (b : w < n) where
@@ -95,21 +135,31 @@ module _ (cells runs : List ℕ) (n : ℕ) (inside : Inside cells runs n) where
       pub wait-there : w < length marks
       wait-there = omega (arith, g .long, inside .few)
 
-      pub going-wait : (v : ℕ) → v ≡ waitedBy (getD marks w 0) low → Going cells runs n rows (set marks w v) (low + 1) count
-      going-wait v e =
-          let new : Waited (getD marks w 0) low v = rw e (waited (getD marks w 0) low free) in
-          let same : Alike (placedIn (set marks w v)) (placedIn marks) n = λ i k. wait-placed reads marks w v low wait-there free new i in
-          record {
-            so-far = g .so-far;
-            rows-are = g .rows-are;
-            counted = g .counted;
-            long = length-set marks w v ∙ g .long;
-            below = omega arith;
-            looked = looked-wait reads marks w v low wait-there free new (g .looked) (first .0);
-            marked = λ i k. same i k ∙ g .marked i k;
-            room = omega (arith, g .room, unplaced-same (placedIn (set marks w v)) (placedIn marks) n same);
-            rest = ap (λ (L : List ℕ). g .so-far ++ L) (left-alike (n - count) (placedIn (set marks w v)) (placedIn marks) same) ∙ g .rest;
-          }
+      module _ (v : ℕ) (e : v ≡ waitedBy (getD marks w 0) low) where
+        fresh : Waited (getD marks w 0) low v
+        fresh = rw e (waited (getD marks w 0) low free)
+
+        told : Waits reads (set marks w v) low w
+        told = waits-now reads marks w v low wait-there free fresh (first .0)
+
+        marked-wait : Going cells runs n rows (set marks w v) (low + 1) count
+        marked-wait =
+            let same : Alike (placedIn (set marks w v)) (placedIn marks) n = λ i k. wait-placed reads marks w v low wait-there free fresh i in
+            record {
+              so-far = g .so-far;
+              rows-are = g .rows-are;
+              counted = g .counted;
+              long = length-set marks w v ∙ g .long;
+              below = omega arith;
+              looked = looked-skip reads (set marks w v) low (looked-wait reads marks w v low wait-there free fresh (g .looked)) (inr (record { on = w; waits = told }));
+              notes = λ i k. notes-wait reads marks w v low wait-there free fresh (omega (arith, inside .few)) i (g .notes i k);
+              marked = λ i k. same i k ∙ g .marked i k;
+              room = omega (arith, g .room, unplaced-same (placedIn (set marks w v)) (placedIn marks) n same);
+              rest = ap (λ (L : List ℕ). g .so-far ++ L) (left-alike (n - count) (placedIn (set marks w v)) (placedIn marks) same) ∙ g .rest;
+            }
+
+        pub going-wait : Going cells runs n rows (set (set marks w v) (514 + low) (w + 1)) (low + 1) count
+        going-wait = going-note marked-wait low w l (omega (arith, inside .few)) (inr told)
 
     -- a row is placed whose reads are
     module _ (free : getD marks low 0 ≡ 1 → ⊥) where
@@ -133,8 +183,8 @@ module _ (cells runs : List ℕ) (n : ℕ) (inside : Inside cells runs n) where
         hit = λ k. true-and _ _ (not-of-false (placedIn marks low) unmarked) (open-none n (placedIn marks) (reads low) (λ j m. inside .reads-there low j l m) o);
       })
 
-      pub going-place : (b : ℕ) → n ≤ firstOpen n (placedIn marks) (reads low) → b ≡ onFrom (getD marks low 0) low → Going cells runs n (set rows count low) (set marks low 1) b (count + 1)
-      going-place b o e =
+      marked-place : (b : ℕ) → n ≤ firstOpen n (placedIn marks) (reads low) → b ≡ onFrom (getD marks low 0) low → Going cells runs n (set rows count low) (set marks low 1) b (count + 1)
+      marked-place b o e =
           let new : On (getD marks low 0) low b = rw e (on-from (getD marks low 0) low) in
           let same : Alike (placedIn (set marks low 1)) (place (placedIn marks) low) n = λ i k. place-placed reads marks low b place-there free new i in
           let f : n - count ≡ suc (n - (count + 1)) = omega (arith, place-room) in
@@ -146,6 +196,7 @@ module _ (cells runs : List ℕ) (n : ℕ) (inside : Inside cells runs n) where
             long = length-set marks low 1 ∙ g .long;
             below = omega (arith, new .most);
             looked = looked-place reads marks low b place-there free new (g .looked);
+            notes = λ i k. notes-place reads marks low b place-there free new (omega (arith, inside .few)) i (g .notes i k);
             marked = λ i k. same i k ∙ placed-last marks (g .so-far) low i (apartIn cells i) (g .marked i k);
             room = omega (arith, g .room, one-less, unplaced-same (placedIn (set marks low 1)) (place (placedIn marks) low) n same);
             rest =
@@ -154,6 +205,12 @@ module _ (cells runs : List ℕ) (n : ℕ) (inside : Inside cells runs n) where
                 ∙ ap (λ (L : List ℕ). g .so-far ++ L) (sym next)
                 ∙ g .rest;
           }
+
+      pub going-place : (b : ℕ) → n ≤ firstOpen n (placedIn marks) (reads low) → b ≡ onFrom (getD marks low 0) low
+          → Going cells runs n (set rows count low) (set (set marks low 1) (514 + low) (513 + 1)) b (count + 1)
+      going-place b o e =
+          let new : On (getD marks low 0) low b = rw e (on-from (getD marks low 0) low) in
+          going-note (marked-place b o e) low 513 l (omega arith) (inl (placed-now reads marks low b place-there free new))
 
   pub going-rows : {rows marks : List ℕ} {low count : ℕ} → Going cells runs n rows marks low count → length rows ≡ 512
   going-rows g = ap length (g .rows-are) ∙ length-pad 512 (g .so-far) (omega (arith, g .counted, g .room, inside .few))

@@ -1,6 +1,6 @@
 -- Marks of rows: what changes where a row waits, and where one is placed.
 use mathlib.Core.Path.{_≡_, refl, ap, _∙_, sym, subst}
-use mathlib.Core.Bool.{Bool, true, false, _||_}
+use mathlib.Core.Bool.{Bool, true, false, not, _||_}
 use mathlib.Core.Logic.{_⊎_, inl, inr}
 use mathlib.Core.List.{List, [], _∷_}
 use Prim.Native.Nat.{ℕ, zero, suc, _+_, _-_, _<_, _≤_}
@@ -15,7 +15,7 @@ use Rattle.ground.proofs.Bools.{bool-cases, never-both, true-and}
 use Rattle.graph.specs.Graph.{mem, allPlaced, ready, place}
 use Rattle.graph.specs.Placing.{None}
 use Rattle.graph.proofs.Ready.{mem-here, mem-there, place-same, place-other, ready-reads, placed-shut}
-use Rattle.placing.specs.Marks.{placedIn, firstOpen, waitedBy, onFrom, Waits, Looked}
+use Rattle.placing.specs.Marks.{placedIn, firstOpen, waitedBy, onFrom, Waits, Waiting, noteOf, noted, Noted, Looked}
 
 -- THE FIRST OPEN ROW
 
@@ -70,25 +70,30 @@ open-mark m h = ne-eqb m 1 (λ e. omega arith)
 
 module _ (reads : ℕ → List ℕ) (marks : List ℕ) where
   -- a row that waits is not ready
-  waits-shut : (i : ℕ) → Waits reads marks i → ready reads (placedIn marks) i ≡ false
-  waits-shut i w = bool-cases (ready reads (placedIn marks) i)
-      (λ e. never-both (ready-reads reads (placedIn marks) i e (w .on) (w .read)) (open-mark (getD marks (w .on) 0) (w .told)))
+  waits-shut : (i on : ℕ) → Waits reads marks i on → ready reads (placedIn marks) i ≡ false
+  waits-shut i on w = bool-cases (ready reads (placedIn marks) i)
+      (λ e. never-both (ready-reads reads (placedIn marks) i e on (w .read)) (open-mark (getD marks on 0) (w .told)))
       (λ e. e)
 
   pub looked-none : (low : ℕ) → Looked reads marks low → None (ready reads (placedIn marks)) low
   looked-none low h i l = go (h i l)
     where
-      go : (getD marks i 0 ≡ 1) ⊎ Waits reads marks i → ready reads (placedIn marks) i ≡ false
+      go : (getD marks i 0 ≡ 1) ⊎ Waiting reads marks i → ready reads (placedIn marks) i ≡ false
       go (inl e) = placed-shut reads (placedIn marks) i (eq-eqb (getD marks i 0) 1 e)
-      go (inr w) = waits-shut i w
+      go (inr w) = waits-shut i (w .on) (w .waits)
 
-  -- a placed row is passed
-  pub looked-skip : (low : ℕ) → Looked reads marks low → getD marks low 0 ≡ 1 → Looked reads marks (low + 1)
+  -- a row is passed that is placed or waits
+  pub looked-skip : (low : ℕ) → Looked reads marks low → (getD marks low 0 ≡ 1) ⊎ Waiting reads marks low → Looked reads marks (low + 1)
   looked-skip low h e i l = go (ℕ-discrete i low)
     where
-      go : Dec (i ≡ low) → (getD marks i 0 ≡ 1) ⊎ Waits reads marks i
-      go (yes q) = inl (ap (λ (j : ℕ). getD marks j 0) q ∙ e)
+      go : Dec (i ≡ low) → (getD marks i 0 ≡ 1) ⊎ Waiting reads marks i
+      go (yes q) = subst (λ (j : ℕ). (getD marks j 0 ≡ 1) ⊎ Waiting reads marks j) (sym q) e
       go (no q) = h i (omega arith)
+
+  -- a row without a note
+  pub notes-none : (i : ℕ) → noteOf marks i ≡ 0 → Noted reads marks i
+  unfolding noted
+  notes-none i e = record { most = rw e (omega arith); tells = rw e (λ t. never-both t refl) }
 
   -- A ROW WAITS: the row w that it reads is marked
   module _ (w v low : ℕ) (there : w < length marks) (free : getD marks w 0 ≡ 1 → ⊥) (new : Waited (getD marks w 0) low v) where
@@ -105,26 +110,39 @@ module _ (reads : ℕ → List ℕ) (marks : List ℕ) where
         go (yes q) = rw (q, same-at) (open-mark v (new .least) ∙ sym (ne-eqb (getD marks w 0) 1 free))
         go (no q) = rw (other-at i q)
 
-    waits-still : (i : ℕ) → Waits reads marks i → Waits reads (set marks w v) i
-    waits-still i s = go (ℕ-discrete (s .on) w)
+    waits-still : (i on : ℕ) → Waits reads marks i on → Waits reads (set marks w v) i on
+    waits-still i on s = go (ℕ-discrete on w)
       where
-        go : Dec (s .on ≡ w) → Waits reads (set marks w v) i
+        go : Dec (on ≡ w) → Waits reads (set marks w v) i on
         go (yes q) =
-            let a : getD marks w 0 ≡ getD marks (s .on) 0 = ap (λ (j : ℕ). getD marks j 0) (sym q) in
-            let t : 2 ≤ getD marks w 0 = omega (arith, s .told) in
-            record { on = w; read = subst (λ (j : ℕ). mem j (reads i) ≡ true) q (s .read); told = rw same-at (new .least); least = rw same-at (omega (arith, new .lower t, s .least)) }
-        go (no q) = record { on = s .on; read = s .read; told = rw (other-at (s .on) q) (s .told); least = rw (other-at (s .on) q) (s .least) }
+            let t : 2 ≤ getD marks w 0 = subst (λ (j : ℕ). 2 ≤ getD marks j 0) q (s .told) in
+            let d : getD marks w 0 ≤ i + 2 = subst (λ (j : ℕ). getD marks j 0 ≤ i + 2) q (s .least) in
+            record { read = s .read; told = rw (q, same-at) (new .least); least = rw (q, same-at) (omega (arith, new .lower t, d)) }
+        go (no q) = record { read = s .read; told = rw (other-at on q) (s .told); least = rw (other-at on q) (s .least) }
 
-    pub looked-wait : Looked reads marks low → mem w (reads low) ≡ true → Looked reads (set marks w v) (low + 1)
-    looked-wait h r i l = go (ℕ-discrete i low)
+    -- a placed row is another one
+    placed-still : (i : ℕ) → getD marks i 0 ≡ 1 → getD (set marks w v) i 0 ≡ 1
+    placed-still i e = other-at i (λ q. free (ap (λ (j : ℕ). getD marks j 0) (sym q) ∙ e)) ∙ e
+
+    pub waits-now : mem w (reads low) ≡ true → Waits reads (set marks w v) low w
+    waits-now r = record { read = r; told = rw same-at (new .least); least = rw same-at (new .most) }
+
+    pub looked-wait : Looked reads marks low → Looked reads (set marks w v) low
+    looked-wait h i l = go (h i l)
       where
-        old : (getD marks i 0 ≡ 1) ⊎ Waits reads marks i → (getD (set marks w v) i 0 ≡ 1) ⊎ Waits reads (set marks w v) i
-        old (inl e) = inl (other-at i (λ q. free (ap (λ (j : ℕ). getD marks j 0) (sym q) ∙ e)) ∙ e)
-        old (inr s) = inr (waits-still i s)
+        go : (getD marks i 0 ≡ 1) ⊎ Waiting reads marks i → (getD (set marks w v) i 0 ≡ 1) ⊎ Waiting reads (set marks w v) i
+        go (inl e) = inl (placed-still i e)
+        go (inr s) = inr (record { on = s .on; waits = waits-still i (s .on) (s .waits) })
 
-        go : Dec (i ≡ low) → (getD (set marks w v) i 0 ≡ 1) ⊎ Waits reads (set marks w v) i
-        go (yes q) = inr (record { on = w; read = subst (λ (j : ℕ). mem w (reads j) ≡ true) (sym q) r; told = rw same-at (new .least); least = rw same-at (omega (arith, new .most)) })
-        go (no q) = old (h i (omega arith))
+    pub notes-wait : w < 514 → (i : ℕ) → Noted reads marks i → Noted reads (set marks w v) i
+    unfolding noted
+    notes-wait b i h =
+        let e : noteOf (set marks w v) i ≡ noteOf marks i = other-at (514 + i) (λ q. omega arith) in
+        record { most = rw e (h .most); tells = rw (e, wait-placed (noteOf marks i - 1)) (λ t. go (h .tells t)) }
+      where
+        go : (getD marks i 0 ≡ 1) ⊎ Waits reads marks i (noteOf marks i - 1) → (getD (set marks w v) i 0 ≡ 1) ⊎ Waits reads (set marks w v) i (noteOf marks i - 1)
+        go (inl q) = inl (placed-still i q)
+        go (inr s) = inr (waits-still i (noteOf marks i - 1) s)
 
   -- A ROW IS PLACED
   module _ (r b : ℕ) (there : r < length marks) (free : getD marks r 0 ≡ 1 → ⊥) (new : On (getD marks r 0) r b) where
@@ -135,21 +153,88 @@ module _ (reads : ℕ → List ℕ) (marks : List ℕ) where
         go (yes q) = rw (q, getD-set-same marks r 1 0 there) (sym (place-same (placedIn marks) r))
         go (no q) = rw (getD-set-other marks r i 1 0 q) (sym (place-other (placedIn marks) r i q))
 
+    -- a row that waits for r is not below b; the others wait still
+    waits-other : (i on : ℕ) → (on ≡ r → ⊥) → Waits reads marks i on → Waits reads (set marks r 1) i on
+    waits-other i on q s = record { read = s .read; told = rw (getD-set-other marks r on 1 0 q) (s .told); least = rw (getD-set-other marks r on 1 0 q) (s .least) }
+
+    placed-also : (i : ℕ) → getD marks i 0 ≡ 1 → getD (set marks r 1) i 0 ≡ 1
+    placed-also i e = getD-set-other marks r i 1 0 (λ q. free (ap (λ (j : ℕ). getD marks j 0) (sym q) ∙ e)) ∙ e
+
+    pub placed-now : getD (set marks r 1) r 0 ≡ 1
+    placed-now = getD-set-same marks r 1 0 there
+
     pub looked-place : Looked reads marks r → Looked reads (set marks r 1) b
     looked-place h i l = go (ℕ-discrete i r)
       where
-        -- a row that waits for r is not below b
-        still : (s : Waits reads marks i) → Dec (s .on ≡ r) → Waits reads (set marks r 1) i
+        still : (s : Waiting reads marks i) → Dec (s .on ≡ r) → Waiting reads (set marks r 1) i
         still s (yes q) =
-            let a : getD marks r 0 ≡ getD marks (s .on) 0 = ap (λ (j : ℕ). getD marks j 0) (sym q) in
-            let t : 2 ≤ getD marks r 0 = omega (arith, s .told) in
-            absurd (omega (arith, new .lower t, s .least))
-        still s (no q) = record { on = s .on; read = s .read; told = rw (getD-set-other marks r (s .on) 1 0 q) (s .told); least = rw (getD-set-other marks r (s .on) 1 0 q) (s .least) }
+            let t : 2 ≤ getD marks r 0 = subst (λ (j : ℕ). 2 ≤ getD marks j 0) q (s .waits .told) in
+            let d : getD marks r 0 ≤ i + 2 = subst (λ (j : ℕ). getD marks j 0 ≤ i + 2) q (s .waits .least) in
+            absurd (omega (arith, new .lower t, d))
+        still s (no q) = record { on = s .on; waits = waits-other i (s .on) q (s .waits) }
 
-        old : (getD marks i 0 ≡ 1) ⊎ Waits reads marks i → (getD (set marks r 1) i 0 ≡ 1) ⊎ Waits reads (set marks r 1) i
-        old (inl e) = inl (getD-set-other marks r i 1 0 (λ q. free (ap (λ (j : ℕ). getD marks j 0) (sym q) ∙ e)) ∙ e)
+        old : (getD marks i 0 ≡ 1) ⊎ Waiting reads marks i → (getD (set marks r 1) i 0 ≡ 1) ⊎ Waiting reads (set marks r 1) i
+        old (inl e) = inl (placed-also i e)
         old (inr s) = inr (still s (ℕ-discrete (s .on) r))
 
-        go : Dec (i ≡ r) → (getD (set marks r 1) i 0 ≡ 1) ⊎ Waits reads (set marks r 1) i
-        go (yes q) = inl (rw q (getD-set-same marks r 1 0 there))
+        go : Dec (i ≡ r) → (getD (set marks r 1) i 0 ≡ 1) ⊎ Waiting reads (set marks r 1) i
+        go (yes q) = inl (rw q placed-now)
         go (no q) = old (h i (omega (arith, new .most)))
+
+    pub notes-place : r < 514 → (i : ℕ) → Noted reads marks i → Noted reads (set marks r 1) i
+    unfolding noted
+    notes-place d i h =
+        let e : noteOf (set marks r 1) i ≡ noteOf marks i = getD-set-other marks r (514 + i) 1 0 (λ q. omega arith) in
+        record { most = rw e (h .most); tells = rw e (λ t. go (ℕ-discrete (noteOf marks i - 1) r) t (h .tells)) }
+      where
+        x : ℕ
+        x = noteOf marks i - 1
+
+        old : (x ≡ r → ⊥) → (getD marks i 0 ≡ 1) ⊎ Waits reads marks i x → (getD (set marks r 1) i 0 ≡ 1) ⊎ Waits reads (set marks r 1) i x
+        old q (inl e) = inl (placed-also i e)
+        old q (inr s) = inr (waits-other i x q s)
+
+        go : Dec (x ≡ r) → pick (eqb (noteOf marks i) 0) false (not (placedIn (set marks r 1) x)) ≡ true
+            → (noted marks i ≡ true → (getD marks i 0 ≡ 1) ⊎ Waits reads marks i x) → (getD (set marks r 1) i 0 ≡ 1) ⊎ Waits reads (set marks r 1) i x
+        go (yes q) t f = never-both t (shut (eqb (noteOf marks i) 0) (placedIn (set marks r 1) x) (eq-eqb _ 1 (ap (λ (j : ℕ). getD (set marks r 1) j 0) q ∙ placed-now)))
+          where
+            shut : (a c : Bool) → c ≡ true → pick a false (not c) ≡ false
+            shut true c p = refl
+            shut false c p = rw p
+        go (no q) t f = old q (f (rw (getD-set-other marks r x 1 0 q) at t))
+
+  -- A ROW IS NOTED: no mark changes
+  module _ (k x : ℕ) (there : 514 + k < length marks) where
+    mark-stays : (j : ℕ) → j < 514 → getD (set marks (514 + k) (x + 1)) j 0 ≡ getD marks j 0
+    mark-stays j l = getD-set-other marks (514 + k) j (x + 1) 0 (λ q. omega arith)
+
+    pub note-placed : (j : ℕ) → j < 514 → placedIn (set marks (514 + k) (x + 1)) j ≡ placedIn marks j
+    note-placed j l = rw (mark-stays j l)
+
+    waits-stays : (i on : ℕ) → on < 514 → Waits reads marks i on → Waits reads (set marks (514 + k) (x + 1)) i on
+    waits-stays i on l s = record { read = s .read; told = rw (mark-stays on l) (s .told); least = rw (mark-stays on l) (s .least) }
+
+    pub looked-note : (low : ℕ) → low ≤ 512 → ((i j : ℕ) → i < low → mem j (reads i) ≡ true → j < 512) → Looked reads marks low → Looked reads (set marks (514 + k) (x + 1)) low
+    looked-note low m b h i l = go (h i l)
+      where
+        go : (getD marks i 0 ≡ 1) ⊎ Waiting reads marks i → (getD (set marks (514 + k) (x + 1)) i 0 ≡ 1) ⊎ Waiting reads (set marks (514 + k) (x + 1)) i
+        go (inl e) = inl (mark-stays i (omega arith) ∙ e)
+        go (inr s) = inr (record { on = s .on; waits = waits-stays i (s .on) (omega (arith, b i (s .on) l (s .waits .read))) (s .waits) })
+
+    pub notes-note : x < 514 → (getD marks k 0 ≡ 1) ⊎ Waits reads marks k x → (i : ℕ) → i < 512 → k < 512 → Noted reads marks i → Noted reads (set marks (514 + k) (x + 1)) i
+    unfolding noted
+    notes-note b r i l m h = go (ℕ-discrete i k)
+      where
+        old : (y : ℕ) → y < 514 → (getD marks i 0 ≡ 1) ⊎ Waits reads marks i y → (getD (set marks (514 + k) (x + 1)) i 0 ≡ 1) ⊎ Waits reads (set marks (514 + k) (x + 1)) i y
+        old y d (inl e) = inl (mark-stays i (omega arith) ∙ e)
+        old y d (inr s) = inr (waits-stays i y d s)
+
+        go : Dec (i ≡ k) → Noted reads (set marks (514 + k) (x + 1)) i
+        go (yes q) =
+            let e : noteOf (set marks (514 + k) (x + 1)) i ≡ x + 1 = rw q (getD-set-same marks (514 + k) (x + 1) 0 there) in
+            let z : x + 1 - 1 ≡ x = omega arith in
+            record { most = rw e (omega arith); tells = rw (e, z) (λ t. old x b (subst (λ (j : ℕ). (getD marks j 0 ≡ 1) ⊎ Waits reads marks j x) (sym q) r)) }
+        go (no q) =
+            let e : noteOf (set marks (514 + k) (x + 1)) i ≡ noteOf marks i = getD-set-other marks (514 + k) (514 + i) (x + 1) 0 (λ p. q (omega arith)) in
+            let d : noteOf marks i - 1 < 514 = omega (arith, h .most) in
+            record { most = rw e (h .most); tells = rw (e, note-placed (noteOf marks i - 1) d) (λ t. old (noteOf marks i - 1) d (h .tells t)) }

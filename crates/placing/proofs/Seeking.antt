@@ -12,12 +12,14 @@ use lib.ListN.{length, getD, set, length-set}
 use lib.Seq.{getD-set-same, getD-set-other}
 use borrow.Author.Tests.{eqb-true, eqb-false, eq-eqb, ne-eqb}
 use Rattle.ground.specs.Choice.{pick}
+use Rattle.ground.specs.Regions.{zeros}
 use Rattle.ground.proofs.Bools.{bool-cases, never-both, or-left, or-right}
+use Rattle.ground.proofs.Regions.{length-zeros}
 use Rattle.graph.specs.Graph.{mem, some}
 use Rattle.graph.proofs.Ready.{mem-here, mem-there, mem-cases}
 use Rattle.kinds.specs.Kinds.{inputKind, outputKind}
 use Rattle.placing.specs.InTables.{runRead, readsFrom, firstRun, runCount, readsIn, apartIn, Inside}
-use Rattle.placing.specs.Marks.{placedIn, firstOpen, Begun}
+use Rattle.placing.specs.Marks.{placedIn, firstOpen, noteOf, noted, Begun}
 
 -- Lists joined
 
@@ -108,16 +110,26 @@ module _ {runs : List ℕ} {n : ℕ} {P : ℕ → Bool} {end whole k : ℕ} (s :
   seek-end l = let e : end - k ≡ 0 = omega arith in (rw e at (s .is))
 
 -- THE FIRST MARKS
-pub record Begins (cells : List ℕ) (marks : List ℕ) (i : ℕ) : Type 0 where
-  pub long : length marks ≡ 512
-  pub apart : (j : ℕ) → j < i → placedIn marks j ≡ apartIn cells j
+zeros-at : (n i : ℕ) → getD (zeros n) i 0 ≡ 0
+unfolding zeros
+zeros-at zero i = refl
+zeros-at (suc n) zero = refl
+zeros-at (suc n) (suc i) = zeros-at n i
 
-pub begin : (cells : List ℕ) (marks : List ℕ) → length marks ≡ 512 → Begins cells marks 0
-begin cells marks l = record { long = l; apart = λ j b. absurd (omega arith) }
+pub begin : (cells : List ℕ) (marks : List ℕ) → marks ≡ zeros 1026 → Begun cells 0 marks
+begin cells marks z = record {
+  long = ap length z ∙ length-zeros 1026;
+  unnoted = λ i. ap (λ (m : List ℕ). getD m (514 + i) 0) z ∙ zeros-at 1026 (514 + i);
+  apart = λ j b. absurd (omega arith);
+}
 
-pub begin-more : {cells marks : List ℕ} {i : ℕ} → Begins cells marks i → i < 512 → (v : ℕ) → v ≡ pick (eqb (getD cells (i * 9) 0) inputKind) 1 (pick (eqb (getD cells (i * 9) 0) outputKind) 1 0) → Begins cells (set marks i v) (i + 1)
+pub begin-more : {cells marks : List ℕ} {i : ℕ} → Begun cells i marks → i < 512 → (v : ℕ) → v ≡ pick (eqb (getD cells (i * 9) 0) inputKind) 1 (pick (eqb (getD cells (i * 9) 0) outputKind) 1 0) → Begun cells (i + 1) (set marks i v)
 unfolding apartIn
-begin-more {cells} {marks} {i} b l v e = record { long = length-set marks i v ∙ b .long; apart = λ j h. go j h (ℕ-discrete j i) }
+begin-more {cells} {marks} {i} b l v e = record {
+  long = length-set marks i v ∙ b .long;
+  unnoted = λ j. getD-set-other marks i (514 + j) v 0 (λ q. omega arith) ∙ b .unnoted j;
+  apart = λ j h. go j h (ℕ-discrete j i);
+}
   where
     told : (p q : Bool) → eqb (pick p 1 (pick q 1 0)) 1 ≡ p || q
     told true q = refl
@@ -128,8 +140,23 @@ begin-more {cells} {marks} {i} b l v e = record { long = length-set marks i v �
     go j h (yes q) = rw (q, getD-set-same marks i v 0 (omega (arith, b .long)), e) (told (eqb (getD cells (i * 9) 0) inputKind) (eqb (getD cells (i * 9) 0) outputKind))
     go j h (no q) = rw (getD-set-other marks i j v 0 q) (b .apart j (omega arith))
 
-pub begun : {cells marks : List ℕ} {i n : ℕ} → Begins cells marks i → n ≤ i → Begun cells n marks
-begun b l = record { long = b .long; apart = λ j h. b .apart j (omega arith) }
+pub begun : {cells marks : List ℕ} {i n : ℕ} → Begun cells i marks → n ≤ i → Begun cells n marks
+begun b l = record { long = b .long; unnoted = b .unnoted; apart = λ j h. b .apart j (omega arith) }
+
+-- A ROW'S NOTE
+module _ (marks : List ℕ) (i : ℕ) where
+  pub note-none : noteOf marks i ≡ 0 → false ≡ noted marks i
+  unfolding noted
+  note-none e = rw e
+
+  module _ (h : noteOf marks i ≡ 0 → ⊥) where
+    pub note-over : getD marks (noteOf marks i - 1) 0 ≡ 1 → false ≡ noted marks i
+    unfolding noted
+    note-over e = rw (ne-eqb (noteOf marks i) 0 h, eq-eqb (getD marks (noteOf marks i - 1) 0) 1 e)
+
+    pub note-holds : (getD marks (noteOf marks i - 1) 0 ≡ 1 → ⊥) → true ≡ noted marks i
+    unfolding noted
+    note-holds e = rw (ne-eqb (noteOf marks i) 0 h, ne-eqb (getD marks (noteOf marks i - 1) 0) 1 e)
 
 -- THE LAST LOOK, from the last row down
 module _ (marks : List ℕ) (k : ℕ) (l : 0 < k) where

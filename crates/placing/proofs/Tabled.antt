@@ -172,5 +172,5 @@ module _ (T : Tables) (long : Long T) (g : good T ≡ true) where
 
   -- so a placing of good tables is that of their netlist
   pub good-placed : {rows marks : List ℕ} {answer : Placed} → PlacedAll (T .cells) (T .runs) (T .cellCount) rows marks answer
-      → (rows ≡ pad 512 (placingOf (view T))) × (marks ≡ zeros 512) × (answer .count ≡ length (placingOf (view T))) × (answer .ring ≡ ringed (view T))
+      → (rows ≡ pad 512 (placingOf (view T))) × (marks ≡ zeros 1026) × (answer .count ≡ length (placingOf (view T))) × (answer .ring ≡ ringed (view T))
   good-placed p = (p .rows-are ∙ ap (pad 512) good-order, p .clear, p .count ∙ ap length good-order, p .ring ∙ good-ring)

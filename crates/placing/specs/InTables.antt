@@ -52,6 +52,6 @@ pub record Inside (cells runs : List ℕ) (n : ℕ) : Type 0 where
 -- a whole placing: the order at the front of the lent rows, the marks zero again
 pub record PlacedAll (cells runs : List ℕ) (n : ℕ) (rows marks : List ℕ) (answer : Placed) : Type 0 where
   pub rows-are : rows ≡ pad 512 (orderIn cells runs n)
-  pub clear : marks ≡ zeros 512
+  pub clear : marks ≡ zeros 1026
   pub count : answer .count ≡ length (orderIn cells runs n)
   pub ring : answer .ring ≡ ringIn cells runs n

@@ -39,7 +39,7 @@ fn first_mark(kind: u32) -> u32
 
 // Inputs and outputs are marked.
 fn mark_apart(cells: &[u32], n: usize, marks: &mut [u32])
-    requires { ⌜ (length (now cells) ≡ 4608) × (n ≤ 512) × (length (now marks) ≡ 512) ⌝ }
+    requires { ⌜ (length (now cells) ≡ 4608) × (n ≤ 512) × (now marks ≡ zeros 1026) ⌝ }
     ensures { λ _. ⌜ Begun (now (cells .entry)) n (now (marks .exit)) ⌝ }
 {
     let mut i: usize = 0;
@@ -64,9 +64,9 @@ fn left_out(marks: &[u32], n: usize) -> bool
     false
 }
 
-// The order of the cells of good tables, at the front of clear rows; the marks are work space, and clear afterwards.
+// The order of the cells of good tables, at the front of clear rows; the marks are work space, clear before and after.
 pub fn place(cells: &[u32], runs: &[u32], n: usize, rows: &mut [u32], marks: &mut [u32]) -> Placed
-    requires { ⌜ Inside (now cells) (now runs) n × (now rows ≡ zeros 512) × (length (now marks) ≡ 512) ⌝ }
+    requires { ⌜ Inside (now cells) (now runs) n × (now rows ≡ zeros 512) × (now marks ≡ zeros 1026) ⌝ }
     ensures { λ r. ⌜ PlacedAll (now (cells .entry)) (now (runs .entry)) n (now (rows .exit)) (now (marks .exit)) r ⌝ }
 {
     mark_apart(cells, n, marks);

@@ -24,7 +24,7 @@ fn open_run(runs: &[u32], marks: &[u32], k: usize, n: usize) -> usize
 
 // The first row that the cell `row` reads and that is not placed; n where all are.
 pub(crate) fn open_read(cells: &[u32], runs: &[u32], marks: &[u32], row: usize, n: usize) -> usize
-    requires { ⌜ Inside (now cells) (now runs) n × (length (now marks) ≡ 512) × (row < n) ⌝ }
+    requires { ⌜ Inside (now cells) (now runs) n × (length (now marks) ≡ 1026) × (row < n) ⌝ }
     ensures { λ r. ⌜ r ≡ firstOpen n (placedIn (now (marks .entry))) (readsIn (now (cells .entry)) (now (runs .entry)) row) ⌝ }
 {
     let at = row * 9;

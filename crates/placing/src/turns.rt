@@ -1,17 +1,33 @@
 // The turns of a placing. Rows are looked at from the lowest on; a row that must wait is told in the mark of the row that it waits for,
-// and once that one is placed, the look goes back to the lowest row that waited for it.
+// and once that one is placed, the look goes back to the lowest row that waited for it. Rows on the way are passed by their notes.
 use crate::search::open_read;
 ghost use mathlib.Core.Path.{_≡_};
 ghost use mathlib.Core.List.{List};
 ghost use Prim.Native.Nat.{ℕ, _<_, _≤_};
 ghost use lib.ListN.{length, getD};
 ghost use Rattle.placing.specs.InTables.{Inside};
-ghost use Rattle.placing.specs.Marks.{waitedBy, onFrom, Going, Further};
+ghost use Rattle.placing.specs.Marks.{waitedBy, onFrom, noteOf, noted, Going, Further};
 
 // Where a placing stands: the rows below `low` are placed or wait; `count` rows are placed.
 pub(crate) struct At {
     low: usize,
     count: usize,
+}
+
+// The row's note still tells that it is placed or waits.
+fn still_noted(marks: &[u32], row: usize) -> bool
+    requires { ⌜ (length (now marks) ≡ 1026) × (row < 512) × (noteOf (now marks) row ≤ 514) ⌝ }
+    ensures { λ r. ⌜ r ≡ noted (now (marks .entry)) row ⌝ }
+{
+    let note = marks[514 + row] as usize;
+    if note == 0 {
+        return false;
+    }
+    let at = note - 1;
+    if marks[at] == 1 {
+        return false;
+    }
+    true
 }
 
 // The mark of a row for which `row` waits too.
@@ -55,6 +71,12 @@ fn turn(
     requires { ⌜ Inside (now cells) (now runs) n × Going (now cells) (now runs) n (now rows) (now marks) low count × (low < n) ⌝ }
     ensures { λ r. ⌜ Going (now (cells .entry)) (now (runs .entry)) n (now (rows .exit)) (now (marks .exit)) (r .low) (r .count) × Further n low count r ⌝ }
 {
+    if still_noted(marks, low) {
+        return At {
+            low: low + 1,
+            count,
+        };
+    }
     let mark = marks[low];
     if mark == 1 {
         return At {
@@ -67,6 +89,7 @@ fn turn(
     if on < n {
         let new = waited_by(marks[on], row);
         marks[on] = new;
+        marks[514 + low] = on as u32 + 1;
         return At {
             low: low + 1,
             count,
@@ -74,6 +97,7 @@ fn turn(
     }
     rows[count] = row;
     marks[low] = 1;
+    marks[514 + low] = 514;
     let next = on_from(mark, row) as usize;
     At {
         low: next,

@@ -1,4 +1,5 @@
-use Rattle.placing.proofs.Seeking.{Begins, begin, begin-more, begun}
+use Rattle.placing.specs.Marks.{Begun}
+use Rattle.placing.proofs.Seeking.{begin, begin-more, begun}
 use native.Mathlib.Omega.{arith}
 use Prim.Native.Nat.{_≤_, _-_}
 use borrow.Author.Needs.{needs}
@@ -6,7 +7,7 @@ use Rattle.placing.proofs.mark_apart.Statement.{statement}
 use Rattle.placing.proofs.mark_apart.Tie as tie
 
 abbrev Inv-loop : tie.InvT-loop
-Inv-loop cells n marks₀ i₀ marks i = (i ≤ n) × Begins cells marks i
+Inv-loop cells n marks₀ i₀ marks i = (i ≤ n) × Begun cells i marks
 
 abbrev μ-loop : tie.MeasureT-loop
 μ-loop cells n marks₀ i₀ marks i = n - i
@@ -42,7 +43,7 @@ loop-again : tie.Need-loop-again Inv-loop μ-loop
 loop-again c = let l = c .before .before .before .loop in (omega arith, begin-more (l .inv .1) (omega arith) _ (c .first-mark .ensures))
 
 same-length : tie.Need-same-length Inv-loop μ-loop
-same-length c = omega (arith, c .before .loop .inv .1 .long, c .before .before .before .before .pre .2)
+same-length c = let s = c .before .before .before .before in omega (arith, c .before .loop .inv .1 .long, begin (s .args .cells .now) _ (s .pre .2) .long)
 
 returns : tie.Need-returns Inv-loop μ-loop
 returns c = begun (c .before .loop .inv .1) (c .loop-test .left)

@@ -8,7 +8,7 @@ mark-apart-requires : tie.Need-mark-apart-requires
 mark-apart-requires c κs = let s = c .before .before .before .before .before in (s .pre .0 .cells-long, s .pre .0 .few, s .pre .2)
 
 place-rows-requires : tie.Need-place-rows-requires
-place-rows-requires c κs = let s = c .before .before .before .before .before .before .before .before .before .before in let b = c .before .before .before .before .mark-apart .ensures in (s .pre .0, going-start _ _ _ (s .pre .0) _ _ (s .pre .1) (b .long) (b .apart))
+place-rows-requires c κs = let s = c .before .before .before .before .before .before .before .before .before .before in (s .pre .0, going-start _ _ _ (s .pre .0) _ _ (s .pre .1) (c .before .before .before .before .mark-apart .ensures))
 
 left-out-requires : tie.Need-left-out-requires
 left-out-requires c κs = let s = c .before .before .before .before .before .before .before .before .before .before .before .before .before .before .before .before in omega (arith, c .before .before .before .before .before .place-rows .ensures .long, s .pre .0 .few)
