@@ -1,2 +1,4 @@
 pub mod Bits
+pub mod Choosing
 pub mod Left
+pub mod One
