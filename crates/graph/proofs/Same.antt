@@ -1,15 +1,13 @@
 -- The order depends only on the reads and the marks of the rows below n.
-use mathlib.Core.Path.{_≡_, refl, ap, ap₂, _∙_, sym, subst}
+use mathlib.Core.Path.{_≡_, refl, ap, ap₂, _∙_, sym}
 use mathlib.Core.Bool.{Bool, true, false, not, _&&_, _||_}
 use mathlib.Core.List.{List, [], _∷_}
-use Prim.Native.Nat.{ℕ, zero, suc, _+_, _<_, _≤_}
+use Prim.Native.Nat.{ℕ, zero, suc, _+_, _<_}
 use native.Mathlib.Omega.{arith}
 use native.Mathlib.Decide.{decLt}
-use lib.Dec.{eqb, ltb}
-use borrow.Author.Tests.{lt-ltb, le-ltb}
-use Rattle.ground.proofs.Bools.{bool-cases}
+use lib.Dec.{eqb}
 use Rattle.graph.specs.Graph.{mem, allPlaced, ready, lowestFrom, lowest, place, orderFrom, order, some, leftOut}
-use Rattle.graph.proofs.Ready.{mem-here, mem-there, Lowest, lowest-law}
+use Rattle.graph.proofs.Ready.{mem-here, mem-there}
 use Rattle.graph.proofs.Order.{order-on, order-stop}
 
 -- alike on the rows below n

@@ -1,22 +1,22 @@
 -- A placing under way: its start, its three turns, its end.
-use mathlib.Core.Path.{_≡_, refl, ap, ap₂, _∙_, sym, subst}
-use mathlib.Core.Bool.{Bool, true, false, not, _&&_, _||_}
+use mathlib.Core.Path.{_≡_, refl, ap, _∙_, sym, subst}
+use mathlib.Core.Bool.{Bool, true, false, not, _||_}
 use mathlib.Core.Logic.{_⊎_, inl, inr}
 use mathlib.Core.List.{List, [], _∷_, _++_, append-assoc, append-nil}
-use Prim.Native.Nat.{ℕ, zero, suc, _+_, _-_, _*_, _<_, _≤_}
+use Prim.Native.Nat.{ℕ, zero, suc, _+_, _-_, _<_, _≤_}
 use native.Mathlib.Omega.{arith}
 use lib.Dec.{eqb}
 use lib.ListN.{length, getD, set, length-set, length-append}
-use borrow.Author.Tests.{eq-eqb, ne-eqb, eqb-false}
+use borrow.Author.Tests.{ne-eqb, eqb-false}
 use Rattle.ground.specs.Regions.{zeros, pad}
 use Rattle.ground.proofs.Bools.{true-and, not-of-false}
 use Rattle.ground.proofs.Regions.{length-pad, pad-put}
-use Rattle.graph.specs.Graph.{mem, allPlaced, ready, lowest, place, orderFrom, order, some, leftOut}
-use Rattle.graph.proofs.Ready.{Lowest, lowest-is, lowest-law}
+use Rattle.graph.specs.Graph.{mem, ready, lowest, place, orderFrom, order, some, leftOut}
+use Rattle.graph.proofs.Ready.{lowest-is}
 use Rattle.graph.proofs.Order.{unplaced, unplaced-same, unplaced-most, unplaced-place, order-on, order-stop}
 use Rattle.graph.proofs.Same.{Alike, order-from-alike, some-alike}
 use Rattle.placing.specs.InTables.{readsIn, apartIn, orderIn, ringIn, Inside, PlacedAll}
-use Rattle.placing.specs.Marks.{placedIn, firstOpen, waitedBy, onFrom, Waits, Waiting, noteOf, noted, Noted, Looked, Begun, Going, left}
+use Rattle.placing.specs.Marks.{placedIn, firstOpen, waitedBy, onFrom, Waits, Waiting, noteOf, noted, Begun, Going}
 use Rattle.placing.proofs.Marks.{open-row, open-none, Waited, waited, On, on-from, looked-none, looked-skip, notes-none, wait-placed, waits-now, looked-wait, notes-wait, place-placed, placed-now, looked-place, notes-place, note-placed, looked-note, notes-note}
 
 -- a row placed last
@@ -91,9 +91,6 @@ module _ (cells runs : List ℕ) (n : ℕ) (inside : Inside cells runs n) where
       }
 
   module _ {rows marks : List ℕ} {low count : ℕ} (g : Going cells runs n rows marks low count) (l : low < n) where
-    pub low-there : low < length marks
-    low-there = omega (arith, g .long, inside .few)
-
     pub note-there : 514 + low < length marks
     note-there = omega (arith, g .long, inside .few)
 

@@ -1,22 +1,22 @@
 -- 20 exactly where a ring is: some cell is never placed if and only if a cell is reached from itself.
-use mathlib.Core.Path.{_≡_, refl, ap, _∙_, sym, subst}
-use mathlib.Core.Bool.{Bool, true, false, _||_}
+use mathlib.Core.Path.{_≡_, refl, subst}
+use mathlib.Core.Bool.{true, false}
 use mathlib.Core.Logic.{⊎-elim}
-use mathlib.Core.List.{List, [], _∷_, _++_}
-use Prim.Native.Nat.{ℕ, zero, suc, _+_, _<_, _≤_}
+use mathlib.Core.List.{List, [], _∷_}
+use Prim.Native.Nat.{ℕ, _<_, _≤_}
 use native.Mathlib.Omega.{arith}
-use lib.Dec.{eqb, leb}
+use lib.Dec.{eqb}
 use native.Mathlib.Decide.{decLt}
 use lib.ListN.{length, getD, length-map}
-use borrow.Author.Tests.{eqb-true, leb-true}
+use borrow.Author.Tests.{eqb-true}
 use Rattle.ground.specs.Lists.{joined}
-use Rattle.ground.proofs.Bools.{bool-cases, never-both, or-true, fact}
-use Rattle.graph.specs.Graph.{mem, Reach, one, more, Ring, leftOut}
+use Rattle.ground.proofs.Bools.{never-both, or-true, fact}
+use Rattle.graph.specs.Graph.{mem, Reach, one, more}
 use Rattle.graph.proofs.Ring.{left-out-ring, ring-left-out}
 use Rattle.kinds.specs.Kinds.{inputKind, outputKind, kindAt}
-use Rattle.netlist.specs.Netlist.{Run, Cell, Netlist, cellRuns}
-use Rattle.netlist.specs.Rules.{runless, cellSound, widthsOf, valid}
-use Rattle.cells.specs.Operands.{runReads, cellReads}
+use Rattle.netlist.specs.Netlist.{Run, Cell, Netlist}
+use Rattle.netlist.specs.Rules.{runless, widthsOf, valid}
+use Rattle.cells.specs.Operands.{cellReads}
 use Rattle.placing.specs.Placing.{noCell, cellAt, readsOf, Ringed, apart, ringed}
 use Rattle.placing.proofs.Sound.{Wide, valid-cell, wide-no-output, read-wide}
 

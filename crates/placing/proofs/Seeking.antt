@@ -1,11 +1,10 @@
 -- The search for an open row among a cell's runs, the first marks, and the last look at all marks.
-use mathlib.Core.Path.{_≡_, refl, ap, ap₂, _∙_, sym, subst}
+use mathlib.Core.Path.{_≡_, refl, ap, _∙_, sym}
 use mathlib.Core.Bool.{Bool, true, false, not, _||_}
-use mathlib.Core.Logic.{_⊎_, inl, inr, ⊎-elim}
+use mathlib.Core.Logic.{_⊎_, inl, inr}
 use mathlib.Core.List.{List, [], _∷_, _++_}
 use Prim.Native.Nat.{ℕ, zero, suc, _+_, _-_, _*_, _<_, _≤_}
 use native.Mathlib.Omega.{arith}
-use native.Mathlib.Numerals.{add-one}
 use native.Mathlib.Decide.{ℕ-discrete}
 use lib.Dec.{eqb}
 use lib.ListN.{length, getD, set, length-set}
@@ -13,7 +12,7 @@ use lib.Seq.{getD-set-same, getD-set-other}
 use borrow.Author.Tests.{eqb-true, eqb-false, eq-eqb, ne-eqb}
 use Rattle.ground.specs.Choice.{pick}
 use Rattle.ground.specs.Regions.{zeros}
-use Rattle.ground.proofs.Bools.{bool-cases, never-both, or-left, or-right}
+use Rattle.ground.proofs.Bools.{bool-cases, never-both, or-left}
 use Rattle.ground.proofs.Regions.{length-zeros}
 use Rattle.graph.specs.Graph.{mem, some}
 use Rattle.graph.proofs.Ready.{mem-here, mem-there, mem-cases}

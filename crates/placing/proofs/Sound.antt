@@ -1,8 +1,8 @@
 -- What a valid netlist says of the rows that a cell reads: they are there, they have bits, and so they are no outputs.
-use mathlib.Core.Path.{_≡_, refl, ap, _∙_, sym, subst}
-use mathlib.Core.Bool.{Bool, true, false, not, _&&_, _||_}
-use mathlib.Core.List.{List, [], _∷_, _++_, map}
-use Prim.Native.Nat.{ℕ, zero, suc, _+_, _<_, _≤_}
+use mathlib.Core.Path.{_≡_, refl, sym, subst}
+use mathlib.Core.Bool.{true, false, _&&_}
+use mathlib.Core.List.{List, [], _∷_, _++_}
+use Prim.Native.Nat.{ℕ, _+_, _<_, _≤_}
 use native.Mathlib.Omega.{arith}
 use lib.Dec.{eqb, leb, ltb}
 use lib.ListN.{length, getD, length-map, List·getD-map}
@@ -15,11 +15,11 @@ use Rattle.graph.proofs.Ready.{mem-here, mem-there, mem-cases}
 use Rattle.kinds.specs.Kinds.{wide, outputKind, kindAt}
 use Rattle.kinds.proofs.Widths.{Fits}
 use Rattle.netlist.specs.Netlist.{Run, const, piece, Cell, Netlist, cellRuns, operandWidth}
-use Rattle.netlist.specs.Rules.{isTrit, runSound, operandSound, cellSound, widthsOf, valid}
+use Rattle.netlist.specs.Rules.{isTrit, runSound, cellSound, widthsOf, valid}
 use Rattle.netlist.proofs.Laying.{valid-cells}
 use Rattle.netlist.proofs.Lengths.{cell-fits}
 use Rattle.cells.specs.Operands.{runReads, cellReads}
-use Rattle.cells.proofs.Linking.{RunAsks, RunsAsk}
+use Rattle.cells.proofs.Linking.{RunsAsk}
 use Rattle.placing.specs.Placing.{noCell, cellAt, readsOf}
 
 trits-all : (ts : List ℕ) → every isTrit ts ≡ true → Trits ts

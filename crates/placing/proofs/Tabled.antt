@@ -1,6 +1,6 @@
 -- The words of good tables say what their netlist says of the order of placing.
 use mathlib.Core.Path.{_≡_, refl, ap, ap₂, _∙_, sym, subst}
-use mathlib.Core.Bool.{Bool, true, false, _||_}
+use mathlib.Core.Bool.{true, _||_}
 use mathlib.Core.List.{List, [], _∷_, _++_}
 use Prim.Native.Nat.{ℕ, zero, suc, _+_, _-_, _*_, _<_, _≤_}
 use native.Mathlib.Omega.{arith}
@@ -8,14 +8,13 @@ use native.Mathlib.Nat.{add-zero}
 use lib.Dec.{eqb}
 use lib.ListN.{length, getD, take, drop, length-append}
 use lib.Seq.{getD-drop, drop-drop, take-add, getD-append-add}
-use Rattle.ground.specs.Choice.{pick}
 use Rattle.ground.specs.Lists.{joined}
 use Rattle.ground.specs.Regions.{zeros, pad, part}
 use Rattle.ground.proofs.Bools.{bool-cases, and-true}
 use Rattle.graph.specs.Graph.{mem, order, leftOut}
 use Rattle.graph.proofs.Same.{Alike, order-alike, left-out-alike}
 use Rattle.kinds.specs.Kinds.{inputKind, outputKind}
-use Rattle.netlist.specs.Netlist.{Run, const, piece, Cell, Netlist, cellRuns, runsOf}
+use Rattle.netlist.specs.Netlist.{Run, Cell, Netlist, cellRuns, runsOf}
 use Rattle.netlist.specs.Rules.{valid}
 use Rattle.netlist.specs.Tables.{Tables, cellRow, cellRows, cellStart, layout}
 use Rattle.netlist.specs.View.{word, runIn, runsIn, poolIn, cellIn, cellsIn, view}

@@ -1,7 +1,6 @@
 // The search for a row that is read and not placed yet.
 ghost use mathlib.Core.Path.{_≡_};
-ghost use mathlib.Core.List.{List};
-ghost use Prim.Native.Nat.{ℕ, _*_, _<_, _≤_};
+ghost use Prim.Native.Nat.{_*_, _<_, _≤_};
 ghost use lib.ListN.{length, getD};
 ghost use Rattle.placing.specs.InTables.{runRead, readsIn, Inside};
 ghost use Rattle.placing.specs.Marks.{placedIn, firstOpen};

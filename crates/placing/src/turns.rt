@@ -2,8 +2,7 @@
 // and once that one is placed, the look goes back to the lowest row that waited for it. Rows on the way are passed by their notes.
 use crate::search::open_read;
 ghost use mathlib.Core.Path.{_≡_};
-ghost use mathlib.Core.List.{List};
-ghost use Prim.Native.Nat.{ℕ, _<_, _≤_};
+ghost use Prim.Native.Nat.{_<_, _≤_};
 ghost use lib.ListN.{length, getD};
 ghost use Rattle.placing.specs.InTables.{Inside};
 ghost use Rattle.placing.specs.Marks.{waitedBy, onFrom, noteOf, noted, Going, Further};
@@ -58,7 +57,41 @@ fn on_from(mark: u32, row: u32) -> u32
     mark - 2
 }
 
-// The row `low` is passed, or waits, or is placed.
+// The row `low`, not placed yet, waits for a row that it reads, or is placed.
+fn look(
+    cells: &[u32],
+    runs: &[u32],
+    n: usize,
+    rows: &mut [u32],
+    marks: &mut [u32],
+    low: usize,
+    count: usize,
+) -> At
+    requires { ⌜ Inside (now cells) (now runs) n × Going (now cells) (now runs) n (now rows) (now marks) low count × (low < n) × (getD (now marks) low 0 ≡ 1 → ⊥) ⌝ }
+    ensures { λ r. ⌜ Going (now (cells .entry)) (now (runs .entry)) n (now (rows .exit)) (now (marks .exit)) (r .low) (r .count) × Further n low count r ⌝ }
+{
+    let on = open_read(cells, runs, marks, low, n);
+    let row = low as u32;
+    if on < n {
+        let new = waited_by(marks[on], row);
+        marks[on] = new;
+        marks[514 + low] = on as u32 + 1;
+        return At {
+            low: low + 1,
+            count,
+        };
+    }
+    let next = on_from(marks[low], row) as usize;
+    rows[count] = row;
+    marks[low] = 1;
+    marks[514 + low] = 514;
+    At {
+        low: next,
+        count: count + 1,
+    }
+}
+
+// The row `low` is passed, if it is placed or its note still holds; else it is looked at.
 fn turn(
     cells: &[u32],
     runs: &[u32],
@@ -77,32 +110,13 @@ fn turn(
             count,
         };
     }
-    let mark = marks[low];
-    if mark == 1 {
+    if marks[low] == 1 {
         return At {
             low: low + 1,
             count,
         };
     }
-    let on = open_read(cells, runs, marks, low, n);
-    let row = low as u32;
-    if on < n {
-        let new = waited_by(marks[on], row);
-        marks[on] = new;
-        marks[514 + low] = on as u32 + 1;
-        return At {
-            low: low + 1,
-            count,
-        };
-    }
-    rows[count] = row;
-    marks[low] = 1;
-    marks[514 + low] = 514;
-    let next = on_from(mark, row) as usize;
-    At {
-        low: next,
-        count: count + 1,
-    }
+    look(cells, runs, n, rows, marks, low, count)
 }
 
 // Turn after turn, until all rows are looked at; how many are placed.

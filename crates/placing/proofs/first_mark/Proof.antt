@@ -1,5 +1,4 @@
 use Rattle.ground.proofs.Tests.{tests}
-use borrow.Author.Needs.{needs}
 use Rattle.placing.proofs.first_mark.Statement.{statement}
 use Rattle.placing.proofs.first_mark.Tie as tie
 

@@ -2,7 +2,7 @@ use Rattle.placing.proofs.Seeking.{Seeking, seek-start, seek-word, seek
 use Rattle.placing.specs.InTables.{readsIn}
 use Rattle.placing.specs.Marks.{placedIn, firstOpen}
 use native.Mathlib.Omega.{arith}
-use Prim.Native.Nat.{_≤_, _-_, _*_, _+_}
+use Prim.Native.Nat.{_-_, _*_, _+_}
 use borrow.Author.Needs.{needs}
 use Rattle.placing.proofs.search.open_read.Statement.{statement}
 use Rattle.placing.proofs.search.open_read.Tie as tie
