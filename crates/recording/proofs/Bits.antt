@@ -29,10 +29,10 @@ module _ (a : List ℕ) (i : ℕ) where
   not-end k h = rw (rest-end a i h)
 
 -- behind the bits that two operands share one of them ends
-pub shared-end : (x y i : ℕ) → min x y ≤ i → (x ≤ i) ⊎ (y ≤ i)
+shared-end : (x y i : ℕ) → min x y ≤ i → (x ≤ i) ⊎ (y ≤ i)
 shared-end x y i h = bool-cases (leb x i) (λ e. inl (leb-true x i e)) (λ e. let l = leb-false x i e in inr (omega arith))
 
-pub two-end : (f : List ℕ → List ℕ → Made) (e : Made) → ((ys : List ℕ) → f [] ys ≡ e) → ((xs : List ℕ) → f xs [] ≡ e)
+two-end : (f : List ℕ → List ℕ → Made) (e : Made) → ((ys : List ℕ) → f [] ys ≡ e) → ((xs : List ℕ) → f xs [] ≡ e)
     → (a b : List ℕ) (i : ℕ) → min (length a) (length b) ≤ i → f (drop i a) (drop i b) ≡ e
 two-end f e p q a b i h =
     ⊎-elim (λ l. rw (rest-end a i l) (p (drop i b))) (λ l. rw (rest-end b i l) (q (drop i a))) (shared-end (length a) (length b) i h)

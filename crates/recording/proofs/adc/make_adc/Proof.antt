@@ -35,16 +35,28 @@ shared-slice-read-put-sum-2 : tie.Need-shared-slice-read-put-sum-2 Inv-loop μ-l
 shared-slice-read-put-sum-2 c = search needs
 
 put-sum-requires : tie.Need-put-sum-requires Inv-loop μ-loop
-put-sum-requires c κs = let r = step-room (adc-on (c .before .before .before .before .before .before .before .before .before .before .args .a .now) (c .before .before .before .before .before .before .before .before .before .before .args .b .now) (c .before .before .before .before .loop .i) (c .before .before .before .before .loop .next) (omega arith) (c .before .before .before .before .loop .carry)) (c .before .before .before .before .loop .inv) in (omega (arith, r .0), omega (arith, r .1))
+put-sum-requires c κs =
+    let s = c .before .before .before .before .before .before .before .before .before .before in
+    let l = c .before .before .before .before .loop in
+    let r = step-room (adc-on (s .args .a .now) (s .args .b .now) (l .i) (l .next) (omega arith) (l .carry)) (l .inv) in
+    (omega (arith, r .0), omega (arith, r .1))
 
 mul-outs : tie.Need-mul-outs Inv-loop μ-loop
 mul-outs c = search needs
 
 slice-write-outs : tie.Need-slice-write-outs Inv-loop μ-loop
-slice-write-outs c = let r = step-room (adc-on (c .before .before .before .before .before .before .before .before .before .before .before .before .before .args .a .now) (c .before .before .before .before .before .before .before .before .before .before .before .before .before .args .b .now) (c .before .before .before .before .before .before .before .loop .i) (c .before .before .before .before .before .before .before .loop .next) (omega arith) (c .before .before .before .before .before .before .before .loop .carry)) (c .before .before .before .before .before .before .before .loop .inv) in omega (arith, r .2)
+slice-write-outs c =
+    let s = c .before .before .before .before .before .before .before .before .before .before .before .before .before in
+    let l = c .before .before .before .before .before .before .before .loop in
+    let r = step-room (adc-on (s .args .a .now) (s .args .b .now) (l .i) (l .next) (omega arith) (l .carry)) (l .inv) in
+    omega (arith, r .2)
 
 add-put-carry : tie.Need-add-put-carry Inv-loop μ-loop
-add-put-carry c = let r = step-room (adc-on (c .before .before .before .before .before .before .before .before .before .before .before .before .before .before .args .a .now) (c .before .before .before .before .before .before .before .before .before .before .before .before .before .before .args .b .now) (c .before .before .before .before .before .before .before .before .loop .i) (c .before .before .before .before .before .before .before .before .loop .next) (omega arith) (c .before .before .before .before .before .before .before .before .loop .carry)) (c .before .before .before .before .before .before .before .before .loop .inv) in omega (arith, r .0)
+add-put-carry c =
+    let s = c .before .before .before .before .before .before .before .before .before .before .before .before .before .before in
+    let l = c .before .before .before .before .before .before .before .before .loop in
+    let r = step-room (adc-on (s .args .a .now) (s .args .b .now) (l .i) (l .next) (omega arith) (l .carry)) (l .inv) in
+    omega (arith, r .0)
 
 mul-put-carry : tie.Need-mul-put-carry Inv-loop μ-loop
 mul-put-carry c = search needs
@@ -59,12 +71,19 @@ shared-slice-read-put-carry-2 : tie.Need-shared-slice-read-put-carry-2 Inv-loop 
 shared-slice-read-put-carry-2 c = search needs
 
 put-carry-requires : tie.Need-put-carry-requires Inv-loop μ-loop
-put-carry-requires c κs = let r = step-room (adc-on (c .before .before .before .before .before .before .before .before .before .before .before .before .before .before .before .before .args .a .now) (c .before .before .before .before .before .before .before .before .before .before .before .before .before .before .before .before .args .b .now) (c .before .before .before .before .before .before .before .before .before .before .loop .i) (c .before .before .before .before .before .before .before .before .before .before .loop .next) (omega arith) (c .before .before .before .before .before .before .before .before .before .before .loop .carry)) (c .before .before .before .before .before .before .before .before .before .before .loop .inv) in
-    let l = puts-length (c .before .before .before .before .before .put-sum .ensures .1) in
+put-carry-requires c κs =
+    let s = c .before .before .before .before .before .before .before .before .before .before .before .before .before .before .before .before in
+    let l = c .before .before .before .before .before .before .before .before .before .before .loop in
+    let r = step-room (adc-on (s .args .a .now) (s .args .b .now) (l .i) (l .next) (omega arith) (l .carry)) (l .inv) in
+    let long = puts-length (c .before .before .before .before .before .put-sum .ensures .1) in
     (omega (arith, r .0), omega (arith, r .1))
 
 add-next : tie.Need-add-next Inv-loop μ-loop
-add-next c = let r = step-room (adc-on (c .before .before .before .before .before .before .before .before .before .before .before .before .before .before .before .before .before .before .before .args .a .now) (c .before .before .before .before .before .before .before .before .before .before .before .before .before .before .before .before .before .before .before .args .b .now) (c .before .before .before .before .before .before .before .before .before .before .before .before .before .loop .i) (c .before .before .before .before .before .before .before .before .before .before .before .before .before .loop .next) (omega arith) (c .before .before .before .before .before .before .before .before .before .before .before .before .before .loop .carry)) (c .before .before .before .before .before .before .before .before .before .before .before .before .before .loop .inv) in omega (arith, r .0)
+add-next c =
+    let s = c .before .before .before .before .before .before .before .before .before .before .before .before .before .before .before .before .before .before .before in
+    let l = c .before .before .before .before .before .before .before .before .before .before .before .before .before .loop in
+    let r = step-room (adc-on (s .args .a .now) (s .args .b .now) (l .i) (l .next) (omega arith) (l .carry)) (l .inv) in
+    omega (arith, r .0)
 
 add-i : tie.Need-add-i Inv-loop μ-loop
 add-i c = search needs
@@ -73,16 +92,23 @@ loop-less : tie.Need-loop-less Inv-loop μ-loop
 loop-less c = search needs
 
 loop-again : tie.Need-loop-again Inv-loop μ-loop
-loop-again c = let p = c .before .before .before .before .before .before .before .before .put-sum .ensures in
+loop-again c =
+    let s = c .before .before .before .before .before .before .before .before .before .before .before .before .before .before .before .before .before .before .before in
+    let l = c .before .before .before .before .before .before .before .before .before .before .before .before .before .loop in
+    let p = c .before .before .before .before .before .before .before .before .put-sum .ensures in
     let q = c .before .before .put-carry .ensures in
-    let e : c .before .before .put-carry .result ≡ c .before .before .before .before .before .before .before .before .before .before .before .before .before .loop .next + 5 = omega arith in
-    rw e (left-bit (adc-on (c .before .before .before .before .before .before .before .before .before .before .before .before .before .before .before .before .before .before .before .args .a .now) (c .before .before .before .before .before .before .before .before .before .before .before .before .before .before .before .before .before .before .before .args .b .now) (c .before .before .before .before .before .before .before .before .before .before .before .before .before .loop .i) (c .before .before .before .before .before .before .before .before .before .before .before .before .before .loop .next) (omega arith) (c .before .before .before .before .before .before .before .before .before .before .before .before .before .loop .carry)) (c .before .before .before .before .before .before .before .before .before .before .before .before .before .loop .inv) (puts-then (p .1) refl (q .1)) refl (p .0))
+    let e : c .before .before .put-carry .result ≡ l .next + 5 = omega arith in
+    rw e (left-bit (adc-on (s .args .a .now) (s .args .b .now) (l .i) (l .next) (omega arith) (l .carry)) (l .inv) (puts-then (p .1) refl (q .1)) refl (p .0))
 
 mul-outs-2 : tie.Need-mul-outs-2 Inv-loop μ-loop
 mul-outs-2 c = search needs
 
 slice-write-outs-2 : tie.Need-slice-write-outs-2 Inv-loop μ-loop
-slice-write-outs-2 c = let r = step-room (adc-end (c .before .before .before .before .before .before .before .args .a .now) (c .before .before .before .before .before .before .before .args .b .now) (c .before .loop .i) (c .before .loop .next) (omega arith) (c .before .loop .carry)) (c .before .loop .inv) in omega (arith, r .2)
+slice-write-outs-2 c =
+    let s = c .before .before .before .before .before .before .before in
+    let l = c .before .loop in
+    let r = step-room (adc-end (s .args .a .now) (s .args .b .now) (l .i) (l .next) (omega arith) (l .carry)) (l .inv) in
+    omega (arith, r .2)
 
 sub-result : tie.Need-sub-result Inv-loop μ-loop
 sub-result c = omega (arith, c .before .loop .inv .since)
@@ -94,7 +120,10 @@ same-length-2 : tie.Need-same-length-2 Inv-loop μ-loop
 same-length-2 c = simp length-set (c .before .loop .inv .wide)
 
 returns : tie.Need-returns Inv-loop μ-loop
-returns c = left-none refl (left-bit (adc-end (c .before .before .before .before .before .before .before .args .a .now) (c .before .before .before .before .before .before .before .args .b .now) (c .before .loop .i) (c .before .loop .next) (omega arith) (c .before .loop .carry)) (c .before .loop .inv) (puts-nothing _ _) (omega arith) refl) refl
+returns c =
+    let s = c .before .before .before .before .before .before .before in
+    let l = c .before .loop in
+    left-none refl (left-bit (adc-end (s .args .a .now) (s .args .b .now) (l .i) (l .next) (omega arith) (l .carry)) (l .inv) (puts-nothing _ _) (omega arith) refl) refl
 
 pub make-adc-spec : {M : Type 1} → statement M
 make-adc-spec =

@@ -1,4 +1,4 @@
-use Prim.Native.Nat.{_≤_, _-_}
+use Prim.Native.Nat.{_-_}
 use native.Mathlib.Omega.{arith}
 use mathlib.Core.Path.{refl}
 use lib.ListN.{length, drop}
@@ -29,7 +29,10 @@ mul-outs-2 : tie.Need-mul-outs-2 Inv-loop μ-loop
 mul-outs-2 c = search needs
 
 slice-write-outs : tie.Need-slice-write-outs Inv-loop μ-loop
-slice-write-outs c = let r = step-room (buf-on (c .before .before .before .args .a .now) (c .before .before .loop .i) (omega arith)) (c .before .before .loop .inv) in omega (arith, r .2)
+slice-write-outs c =
+    let l = c .before .before .loop in
+    let r = step-room (buf-on (c .before .before .before .args .a .now) (l .i) (omega arith)) (l .inv) in
+    omega (arith, r .2)
 
 add-i : tie.Need-add-i Inv-loop μ-loop
 add-i c = search needs
@@ -38,13 +41,17 @@ loop-less : tie.Need-loop-less Inv-loop μ-loop
 loop-less c = search needs
 
 loop-again : tie.Need-loop-again Inv-loop μ-loop
-loop-again c = left-bit (buf-on (c .before .before .before .args .a .now) (c .before .before .loop .i) (omega arith)) (c .before .before .loop .inv) (puts-nothing _ _) (omega arith) refl
+loop-again c =
+    let l = c .before .before .loop in
+    left-bit (buf-on (c .before .before .before .args .a .now) (l .i) (omega arith)) (l .inv) (puts-nothing _ _) (omega arith) refl
 
 same-length : tie.Need-same-length Inv-loop μ-loop
 same-length c = c .before .loop .inv .wide
 
 returns : tie.Need-returns Inv-loop μ-loop
-returns c = left-none (buf-end (c .before .before .args .a .now) (c .before .loop .i) (omega arith)) (c .before .loop .inv) (omega arith)
+returns c =
+    let l = c .before .loop in
+    left-none (buf-end (c .before .before .args .a .now) (l .i) (omega arith)) (l .inv) (omega arith)
 
 pub make-buf-spec : {M : Type 1} → statement M
 make-buf-spec =

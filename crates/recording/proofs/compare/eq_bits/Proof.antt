@@ -34,18 +34,33 @@ shared-slice-read-put-2 : tie.Need-shared-slice-read-put-2 Inv-loop μ-loop
 shared-slice-read-put-2 c = search needs
 
 put-requires : tie.Need-put-requires Inv-loop μ-loop
-put-requires c κs = let r = step-room (eq-on (c .before .before .before .before .before .before .before .before .before .before .args .a .now) (c .before .before .before .before .before .before .before .before .before .before .args .b .now) (c .before .before .before .before .loop .i) (c .before .before .before .before .loop .next) (omega arith) (c .before .before .before .before .loop .sum)) (c .before .before .before .before .loop .inv) in (omega (arith, r .0), omega (arith, r .1))
+put-requires c κs =
+    let s = c .before .before .before .before .before .before .before .before .before .before in
+    let l = c .before .before .before .before .loop in
+    let r = step-room (eq-on (s .args .a .now) (s .args .b .now) (l .i) (l .next) (omega arith) (l .sum)) (l .inv) in
+    (omega (arith, r .0), omega (arith, r .1))
 
 add-put : tie.Need-add-put Inv-loop μ-loop
-add-put c = let r = step-room (eq-on (c .before .before .before .before .before .before .before .before .before .before .before .before .before .before .args .a .now) (c .before .before .before .before .before .before .before .before .before .before .before .before .before .before .args .b .now) (c .before .before .before .before .before .before .before .before .loop .i) (c .before .before .before .before .before .before .before .before .loop .next) (omega arith) (c .before .before .before .before .before .before .before .before .loop .sum)) (c .before .before .before .before .before .before .before .before .loop .inv) in omega (arith, r .0)
+add-put c =
+    let s = c .before .before .before .before .before .before .before .before .before .before .before .before .before .before in
+    let l = c .before .before .before .before .before .before .before .before .loop in
+    let r = step-room (eq-on (s .args .a .now) (s .args .b .now) (l .i) (l .next) (omega arith) (l .sum)) (l .inv) in
+    omega (arith, r .0)
 
 put-requires-2 : tie.Need-put-requires-2 Inv-loop μ-loop
-put-requires-2 c κs = let r = step-room (eq-on (c .before .before .before .before .before .before .before .before .before .before .before .before .before .before .args .a .now) (c .before .before .before .before .before .before .before .before .before .before .before .before .before .before .args .b .now) (c .before .before .before .before .before .before .before .before .loop .i) (c .before .before .before .before .before .before .before .before .loop .next) (omega arith) (c .before .before .before .before .before .before .before .before .loop .sum)) (c .before .before .before .before .before .before .before .before .loop .inv) in
-    let l = puts-length (c .before .before .before .put .ensures .1) in
+put-requires-2 c κs =
+    let s = c .before .before .before .before .before .before .before .before .before .before .before .before .before .before in
+    let l = c .before .before .before .before .before .before .before .before .loop in
+    let r = step-room (eq-on (s .args .a .now) (s .args .b .now) (l .i) (l .next) (omega arith) (l .sum)) (l .inv) in
+    let long = puts-length (c .before .before .before .put .ensures .1) in
     (omega (arith, r .0), omega (arith, r .1))
 
 add-next : tie.Need-add-next Inv-loop μ-loop
-add-next c = let r = step-room (eq-on (c .before .before .before .before .before .before .before .before .before .before .before .before .before .before .before .before .before .args .a .now) (c .before .before .before .before .before .before .before .before .before .before .before .before .before .before .before .before .before .args .b .now) (c .before .before .before .before .before .before .before .before .before .before .before .loop .i) (c .before .before .before .before .before .before .before .before .before .before .before .loop .next) (omega arith) (c .before .before .before .before .before .before .before .before .before .before .before .loop .sum)) (c .before .before .before .before .before .before .before .before .before .before .before .loop .inv) in omega (arith, r .0)
+add-next c =
+    let s = c .before .before .before .before .before .before .before .before .before .before .before .before .before .before .before .before .before in
+    let l = c .before .before .before .before .before .before .before .before .before .before .before .loop in
+    let r = step-room (eq-on (s .args .a .now) (s .args .b .now) (l .i) (l .next) (omega arith) (l .sum)) (l .inv) in
+    omega (arith, r .0)
 
 add-i : tie.Need-add-i Inv-loop μ-loop
 add-i c = search needs
@@ -54,30 +69,53 @@ loop-less : tie.Need-loop-less Inv-loop μ-loop
 loop-less c = search needs
 
 loop-again : tie.Need-loop-again Inv-loop μ-loop
-loop-again c = let p = c .before .before .before .before .before .before .put .ensures in
+loop-again c =
+    let s = c .before .before .before .before .before .before .before .before .before .before .before .before .before .before .before .before .before in
+    let l = c .before .before .before .before .before .before .before .before .before .before .before .loop in
+    let p = c .before .before .before .before .before .before .put .ensures in
     let q = c .before .before .put2 .ensures in
-    rw (q .0) (left-quiet (eq-on (c .before .before .before .before .before .before .before .before .before .before .before .before .before .before .before .before .before .args .a .now) (c .before .before .before .before .before .before .before .before .before .before .before .before .before .before .before .before .before .args .b .now) (c .before .before .before .before .before .before .before .before .before .before .before .loop .i) (c .before .before .before .before .before .before .before .before .before .before .before .loop .next) (omega arith) (c .before .before .before .before .before .before .before .before .before .before .before .loop .sum)) (c .before .before .before .before .before .before .before .before .before .before .before .loop .inv) (puts-then (p .1) refl (rw (p .0) at (q .1))) refl)
+    rw (q .0) (left-quiet (eq-on (s .args .a .now) (s .args .b .now) (l .i) (l .next) (omega arith) (l .sum)) (l .inv) (puts-then (p .1) refl (rw (p .0) at (q .1))) refl)
 
 put-requires-3 : tie.Need-put-requires-3 Inv-loop μ-loop
-put-requires-3 c κs = let r = step-room (eq-end (c .before .before .before .before .before .before .before .before .args .a .now) (c .before .before .before .before .before .before .before .before .args .b .now) (c .before .before .loop .i) (c .before .before .loop .next) (omega arith) (c .before .before .loop .sum)) (c .before .before .loop .inv) in (omega (arith, r .0), omega (arith, r .1))
+put-requires-3 c κs =
+    let s = c .before .before .before .before .before .before .before .before in
+    let l = c .before .before .loop in
+    let r = step-room (eq-end (s .args .a .now) (s .args .b .now) (l .i) (l .next) (omega arith) (l .sum)) (l .inv) in
+    (omega (arith, r .0), omega (arith, r .1))
 
 slice-write-outs : tie.Need-slice-write-outs Inv-loop μ-loop
-slice-write-outs c = let r = step-room (eq-end (c .before .before .before .before .before .before .before .before .before .before .before .args .a .now) (c .before .before .before .before .before .before .before .before .before .before .before .args .b .now) (c .before .before .before .before .before .loop .i) (c .before .before .before .before .before .loop .next) (omega arith) (c .before .before .before .before .before .loop .sum)) (c .before .before .before .before .before .loop .inv) in omega (arith, r .2)
+slice-write-outs c =
+    let s = c .before .before .before .before .before .before .before .before .before .before .before in
+    let l = c .before .before .before .before .before .loop in
+    let r = step-room (eq-end (s .args .a .now) (s .args .b .now) (l .i) (l .next) (omega arith) (l .sum)) (l .inv) in
+    omega (arith, r .2)
 
 add-result : tie.Need-add-result Inv-loop μ-loop
-add-result c = let r = step-room (eq-end (c .before .before .before .before .before .before .before .before .before .before .before .args .a .now) (c .before .before .before .before .before .before .before .before .before .before .before .args .b .now) (c .before .before .before .before .before .loop .i) (c .before .before .before .before .before .loop .next) (omega arith) (c .before .before .before .before .before .loop .sum)) (c .before .before .before .before .before .loop .inv) in omega (arith, r .0)
+add-result c =
+    let s = c .before .before .before .before .before .before .before .before .before .before .before in
+    let l = c .before .before .before .before .before .loop in
+    let r = step-room (eq-end (s .args .a .now) (s .args .b .now) (l .i) (l .next) (omega arith) (l .sum)) (l .inv) in
+    omega (arith, r .0)
 
 sub-result : tie.Need-sub-result Inv-loop μ-loop
 sub-result c = omega (arith, c .before .before .before .before .before .loop .inv .since)
 
 same-length : tie.Need-same-length Inv-loop μ-loop
-same-length c = left-bit (eq-end (c .before .before .before .before .before .before .before .before .before .before .before .args .a .now) (c .before .before .before .before .before .before .before .before .before .before .before .args .b .now) (c .before .before .before .before .before .loop .i) (c .before .before .before .before .before .loop .next) (omega arith) (c .before .before .before .before .before .loop .sum)) (c .before .before .before .before .before .loop .inv) (c .before .before .put3 .ensures .1) refl (c .before .before .put3 .ensures .0) .long
+same-length c =
+    let s = c .before .before .before .before .before .before .before .before .before .before .before in
+    let l = c .before .before .before .before .before .loop in
+    let p = c .before .before .put3 .ensures in
+    left-bit (eq-end (s .args .a .now) (s .args .b .now) (l .i) (l .next) (omega arith) (l .sum)) (l .inv) (p .1) refl (p .0) .long
 
 same-length-2 : tie.Need-same-length-2 Inv-loop μ-loop
 same-length-2 c = search needs
 
 returns : tie.Need-returns Inv-loop μ-loop
-returns c = left-none refl (left-bit (eq-end (c .before .before .before .before .before .before .before .before .before .before .before .args .a .now) (c .before .before .before .before .before .before .before .before .before .before .before .args .b .now) (c .before .before .before .before .before .loop .i) (c .before .before .before .before .before .loop .next) (omega arith) (c .before .before .before .before .before .loop .sum)) (c .before .before .before .before .before .loop .inv) (c .before .before .put3 .ensures .1) refl (c .before .before .put3 .ensures .0)) refl
+returns c =
+    let s = c .before .before .before .before .before .before .before .before .before .before .before in
+    let l = c .before .before .before .before .before .loop in
+    let p = c .before .before .put3 .ensures in
+    left-none refl (left-bit (eq-end (s .args .a .now) (s .args .b .now) (l .i) (l .next) (omega arith) (l .sum)) (l .inv) (p .1) refl (p .0)) refl
 
 pub eq-bits-spec : {M : Type 1} → statement M
 eq-bits-spec =

@@ -10,7 +10,9 @@ shared-requires : tie.Need-shared-requires
 shared-requires c κs = search needs
 
 returns : tie.Need-returns
-returns c = left-none (eq-none (c .before .before .before .before .before .before .args .k) (c .before .before .before .before .before .before .args .a .now) (c .before .before .before .before .before .before .args .b .now) (omega arith)) (left-whole (c .before .before .before .before .before .before .pre)) (omega arith)
+returns c =
+    let s = c .before .before .before .before .before .before in
+    left-none (eq-none (s .args .k) (s .args .a .now) (s .args .b .now) (omega arith)) (left-whole (s .pre)) (omega arith)
 
 shared-slice-read-put : tie.Need-shared-slice-read-put
 shared-slice-read-put c = search needs
@@ -19,16 +21,26 @@ shared-slice-read-put-2 : tie.Need-shared-slice-read-put-2
 shared-slice-read-put-2 c = search needs
 
 put-requires : tie.Need-put-requires
-put-requires c κs = let r = step-room (eq-first (c .before .before .before .before .before .before .before .before .before .args .k) (c .before .before .before .before .before .before .before .before .before .args .a .now) (c .before .before .before .before .before .before .before .before .before .args .b .now) (omega arith)) (left-whole (c .before .before .before .before .before .before .before .before .before .pre)) in (omega (arith, r .0), omega (arith, r .1))
+put-requires c κs =
+    let s = c .before .before .before .before .before .before .before .before .before in
+    let r = step-room (eq-first (s .args .k) (s .args .a .now) (s .args .b .now) (omega arith)) (left-whole (s .pre)) in
+    (omega (arith, r .0), omega (arith, r .1))
 
 add-eq-bits : tie.Need-add-eq-bits
 add-eq-bits c = search needs
 
 eq-bits-requires : tie.Need-eq-bits-requires
-eq-bits-requires c κs = rw (c .before .before .before .before .put .ensures .0) (left-room (left-quiet (eq-first (c .before .before .before .before .before .before .before .before .before .before .before .before .before .before .args .k) (c .before .before .before .before .before .before .before .before .before .before .before .before .before .before .args .a .now) (c .before .before .before .before .before .before .before .before .before .before .before .before .before .before .args .b .now) (omega arith)) (left-whole (c .before .before .before .before .before .before .before .before .before .before .before .before .before .before .pre)) (c .before .before .before .before .put .ensures .1) refl))
+eq-bits-requires c κs =
+    let s = c .before .before .before .before .before .before .before .before .before .before .before .before .before .before in
+    let p = c .before .before .before .before .put .ensures in
+    rw (p .0) (left-room (left-quiet (eq-first (s .args .k) (s .args .a .now) (s .args .b .now) (omega arith)) (left-whole (s .pre)) (p .1) refl))
 
 add-result : tie.Need-add-result
-add-result c = let r = left-small (left-quiet (eq-first (c .before .before .before .before .before .before .before .before .before .before .before .before .before .before .before .before .before .before .before .args .k) (c .before .before .before .before .before .before .before .before .before .before .before .before .before .before .before .before .before .before .before .args .a .now) (c .before .before .before .before .before .before .before .before .before .before .before .before .before .before .before .before .before .before .before .args .b .now) (omega arith)) (left-whole (c .before .before .before .before .before .before .before .before .before .before .before .before .before .before .before .before .before .before .before .pre)) (c .before .before .before .before .before .before .before .before .before .put .ensures .1) refl) (rw (c .before .before .before .before .before .before .before .before .before .put .ensures .0) at (c .before .before .before .before .eq-bits .ensures)) in omega arith
+add-result c =
+    let s = c .before .before .before .before .before .before .before .before .before .before .before .before .before .before .before .before .before .before .before in
+    let p = c .before .before .before .before .before .before .before .before .before .put .ensures in
+    let r = left-small (left-quiet (eq-first (s .args .k) (s .args .a .now) (s .args .b .now) (omega arith)) (left-whole (s .pre)) (p .1) refl) (rw (p .0) at (c .before .before .before .before .eq-bits .ensures)) in
+    omega arith
 
 same-length : tie.Need-same-length
 same-length c = search needs
@@ -37,7 +49,10 @@ same-length-2 : tie.Need-same-length-2
 same-length-2 c = search needs
 
 returns-2 : tie.Need-returns-2
-returns-2 c = left-called (left-quiet (eq-first (c .before .before .before .before .before .before .before .before .before .before .before .before .before .before .before .before .before .before .before .args .k) (c .before .before .before .before .before .before .before .before .before .before .before .before .before .before .before .before .before .before .before .args .a .now) (c .before .before .before .before .before .before .before .before .before .before .before .before .before .before .before .before .before .before .before .args .b .now) (omega arith)) (left-whole (c .before .before .before .before .before .before .before .before .before .before .before .before .before .before .before .before .before .before .before .pre)) (c .before .before .before .before .before .before .before .before .before .put .ensures .1) refl) (rw (c .before .before .before .before .before .before .before .before .before .put .ensures .0) at (c .before .before .before .before .eq-bits .ensures)) (omega arith)
+returns-2 c =
+    let s = c .before .before .before .before .before .before .before .before .before .before .before .before .before .before .before .before .before .before .before in
+    let p = c .before .before .before .before .before .before .before .before .before .put .ensures in
+    left-called (left-quiet (eq-first (s .args .k) (s .args .a .now) (s .args .b .now) (omega arith)) (left-whole (s .pre)) (p .1) refl) (rw (p .0) at (c .before .before .before .before .eq-bits .ensures)) (omega arith)
 
 pub make-eq-spec : {M : Type 1} → statement M
 make-eq-spec =

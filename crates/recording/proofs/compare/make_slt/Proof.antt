@@ -34,10 +34,18 @@ shared-slice-read-put-below-2 : tie.Need-shared-slice-read-put-below-2 Inv-loop 
 shared-slice-read-put-below-2 c = search needs
 
 put-below-requires : tie.Need-put-below-requires Inv-loop μ-loop
-put-below-requires c κs = let r = step-room (slt-on (c .before .before .before .before .before .before .before .before .before .before .args .a .now) (c .before .before .before .before .before .before .before .before .before .before .args .b .now) (c .before .before .before .before .loop .i) (c .before .before .before .before .loop .next) (omega arith) (c .before .before .before .before .loop .carry)) (c .before .before .before .before .loop .inv) in (r .0, r .1)
+put-below-requires c κs =
+    let s = c .before .before .before .before .before .before .before .before .before .before in
+    let l = c .before .before .before .before .loop in
+    let r = step-room (slt-on (s .args .a .now) (s .args .b .now) (l .i) (l .next) (omega arith) (l .carry)) (l .inv) in
+    (r .0, r .1)
 
 add-next : tie.Need-add-next Inv-loop μ-loop
-add-next c = let r = step-room (slt-on (c .before .before .before .before .before .before .before .before .before .before .before .before .before .args .a .now) (c .before .before .before .before .before .before .before .before .before .before .before .before .before .args .b .now) (c .before .before .before .before .before .before .before .loop .i) (c .before .before .before .before .before .before .before .loop .next) (omega arith) (c .before .before .before .before .before .before .before .loop .carry)) (c .before .before .before .before .before .before .before .loop .inv) in omega (arith, r .0)
+add-next c =
+    let s = c .before .before .before .before .before .before .before .before .before .before .before .before .before in
+    let l = c .before .before .before .before .before .before .before .loop in
+    let r = step-room (slt-on (s .args .a .now) (s .args .b .now) (l .i) (l .next) (omega arith) (l .carry)) (l .inv) in
+    omega (arith, r .0)
 
 add-i : tie.Need-add-i Inv-loop μ-loop
 add-i c = search needs
@@ -46,7 +54,11 @@ loop-less : tie.Need-loop-less Inv-loop μ-loop
 loop-less c = search needs
 
 loop-again : tie.Need-loop-again Inv-loop μ-loop
-loop-again c = rw (c .before .before .put-below .ensures .0) (left-quiet (slt-on (c .before .before .before .before .before .before .before .before .before .before .before .before .before .args .a .now) (c .before .before .before .before .before .before .before .before .before .before .before .before .before .args .b .now) (c .before .before .before .before .before .before .before .loop .i) (c .before .before .before .before .before .before .before .loop .next) (omega arith) (c .before .before .before .before .before .before .before .loop .carry)) (c .before .before .before .before .before .before .before .loop .inv) (c .before .before .put-below .ensures .1) refl)
+loop-again c =
+    let s = c .before .before .before .before .before .before .before .before .before .before .before .before .before in
+    let l = c .before .before .before .before .before .before .before .loop in
+    let p = c .before .before .put-below .ensures in
+    rw (p .0) (left-quiet (slt-on (s .args .a .now) (s .args .b .now) (l .i) (l .next) (omega arith) (l .carry)) (l .inv) (p .1) refl)
 
 shared-requires : tie.Need-shared-requires Inv-loop μ-loop
 shared-requires c κs = search needs
@@ -64,28 +76,52 @@ shared-slice-read-put-top-2 : tie.Need-shared-slice-read-put-top-2 Inv-loop μ-l
 shared-slice-read-put-top-2 c = search needs
 
 put-top-requires : tie.Need-put-top-requires Inv-loop μ-loop
-put-top-requires c κs = let r = step-room (slt-top (c .before .before .before .before .before .before .before .before .before .before .before .before .args .a .now) (c .before .before .before .before .before .before .before .before .before .before .before .before .args .b .now) (c .before .before .before .before .before .before .loop .i) (c .before .before .before .before .before .before .loop .next) (omega arith) (c .before .before .before .before .before .before .loop .carry) (omega arith)) (c .before .before .before .before .before .before .loop .inv) in (r .0, r .1)
+put-top-requires c κs =
+    let s = c .before .before .before .before .before .before .before .before .before .before .before .before in
+    let l = c .before .before .before .before .before .before .loop in
+    let r = step-room (slt-top (s .args .a .now) (s .args .b .now) (l .i) (l .next) (omega arith) (l .carry) (omega arith)) (l .inv) in
+    (r .0, r .1)
 
 slice-write-outs : tie.Need-slice-write-outs Inv-loop μ-loop
-slice-write-outs c = let r = step-room (slt-top (c .before .before .before .before .before .before .before .before .before .before .before .before .before .before .before .args .a .now) (c .before .before .before .before .before .before .before .before .before .before .before .before .before .before .before .args .b .now) (c .before .before .before .before .before .before .before .before .before .loop .i) (c .before .before .before .before .before .before .before .before .before .loop .next) (omega arith) (c .before .before .before .before .before .before .before .before .before .loop .carry) (omega arith)) (c .before .before .before .before .before .before .before .before .before .loop .inv) in omega (arith, r .2)
+slice-write-outs c =
+    let s = c .before .before .before .before .before .before .before .before .before .before .before .before .before .before .before in
+    let l = c .before .before .before .before .before .before .before .before .before .loop in
+    let r = step-room (slt-top (s .args .a .now) (s .args .b .now) (l .i) (l .next) (omega arith) (l .carry) (omega arith)) (l .inv) in
+    omega (arith, r .2)
 
 add-result : tie.Need-add-result Inv-loop μ-loop
-add-result c = let r = step-room (slt-top (c .before .before .before .before .before .before .before .before .before .before .before .before .before .before .before .args .a .now) (c .before .before .before .before .before .before .before .before .before .before .before .before .before .before .before .args .b .now) (c .before .before .before .before .before .before .before .before .before .loop .i) (c .before .before .before .before .before .before .before .before .before .loop .next) (omega arith) (c .before .before .before .before .before .before .before .before .before .loop .carry) (omega arith)) (c .before .before .before .before .before .before .before .before .before .loop .inv) in omega (arith, r .0)
+add-result c =
+    let s = c .before .before .before .before .before .before .before .before .before .before .before .before .before .before .before in
+    let l = c .before .before .before .before .before .before .before .before .before .loop in
+    let r = step-room (slt-top (s .args .a .now) (s .args .b .now) (l .i) (l .next) (omega arith) (l .carry) (omega arith)) (l .inv) in
+    omega (arith, r .0)
 
 sub-result : tie.Need-sub-result Inv-loop μ-loop
 sub-result c = omega (arith, c .before .before .before .before .before .before .before .before .before .loop .inv .since)
 
 same-length : tie.Need-same-length Inv-loop μ-loop
-same-length c = left-bit (slt-top (c .before .before .before .before .before .before .before .before .before .before .before .before .before .before .before .args .a .now) (c .before .before .before .before .before .before .before .before .before .before .before .before .before .before .before .args .b .now) (c .before .before .before .before .before .before .before .before .before .loop .i) (c .before .before .before .before .before .before .before .before .before .loop .next) (omega arith) (c .before .before .before .before .before .before .before .before .before .loop .carry) (omega arith)) (c .before .before .before .before .before .before .before .before .before .loop .inv) (c .before .before .put-top .ensures .1) refl (c .before .before .put-top .ensures .0) .long
+same-length c =
+    let s = c .before .before .before .before .before .before .before .before .before .before .before .before .before .before .before in
+    let l = c .before .before .before .before .before .before .before .before .before .loop in
+    let p = c .before .before .put-top .ensures in
+    left-bit (slt-top (s .args .a .now) (s .args .b .now) (l .i) (l .next) (omega arith) (l .carry) (omega arith)) (l .inv) (p .1) refl (p .0) .long
 
 same-length-2 : tie.Need-same-length-2 Inv-loop μ-loop
 same-length-2 c = search needs
 
 returns : tie.Need-returns Inv-loop μ-loop
-returns c = left-none refl (left-bit (slt-top (c .before .before .before .before .before .before .before .before .before .before .before .before .before .before .before .args .a .now) (c .before .before .before .before .before .before .before .before .before .before .before .before .before .before .before .args .b .now) (c .before .before .before .before .before .before .before .before .before .loop .i) (c .before .before .before .before .before .before .before .before .before .loop .next) (omega arith) (c .before .before .before .before .before .before .before .before .before .loop .carry) (omega arith)) (c .before .before .before .before .before .before .before .before .before .loop .inv) (c .before .before .put-top .ensures .1) refl (c .before .before .put-top .ensures .0)) refl
+returns c =
+    let s = c .before .before .before .before .before .before .before .before .before .before .before .before .before .before .before in
+    let l = c .before .before .before .before .before .before .before .before .before .loop in
+    let p = c .before .before .put-top .ensures in
+    left-none refl (left-bit (slt-top (s .args .a .now) (s .args .b .now) (l .i) (l .next) (omega arith) (l .carry) (omega arith)) (l .inv) (p .1) refl (p .0)) refl
 
 slice-write-outs-2 : tie.Need-slice-write-outs-2 Inv-loop μ-loop
-slice-write-outs-2 c = let r = step-room (slt-end (c .before .before .before .before .before .before .before .before .before .args .a .now) (c .before .before .before .before .before .before .before .before .before .args .b .now) (c .before .before .before .loop .i) (c .before .before .before .loop .next) (omega arith) (c .before .before .before .loop .carry)) (c .before .before .before .loop .inv) in omega (arith, r .2)
+slice-write-outs-2 c =
+    let s = c .before .before .before .before .before .before .before .before .before in
+    let l = c .before .before .before .loop in
+    let r = step-room (slt-end (s .args .a .now) (s .args .b .now) (l .i) (l .next) (omega arith) (l .carry)) (l .inv) in
+    omega (arith, r .2)
 
 sub-result-2 : tie.Need-sub-result-2 Inv-loop μ-loop
 sub-result-2 c = omega (arith, c .before .before .before .loop .inv .since)
@@ -97,7 +133,10 @@ same-length-4 : tie.Need-same-length-4 Inv-loop μ-loop
 same-length-4 c = search needs
 
 returns-2 : tie.Need-returns-2 Inv-loop μ-loop
-returns-2 c = left-none refl (left-bit (slt-end (c .before .before .before .before .before .before .before .before .before .args .a .now) (c .before .before .before .before .before .before .before .before .before .args .b .now) (c .before .before .before .loop .i) (c .before .before .before .loop .next) (omega arith) (c .before .before .before .loop .carry)) (c .before .before .before .loop .inv) (puts-nothing _ _) (omega arith) refl) refl
+returns-2 c =
+    let s = c .before .before .before .before .before .before .before .before .before in
+    let l = c .before .before .before .loop in
+    left-none refl (left-bit (slt-end (s .args .a .now) (s .args .b .now) (l .i) (l .next) (omega arith) (l .carry)) (l .inv) (puts-nothing _ _) (omega arith) refl) refl
 
 pub make-slt-spec : {M : Type 1} → statement M
 make-slt-spec =

@@ -34,10 +34,18 @@ shared-slice-read-put-below-2 : tie.Need-shared-slice-read-put-below-2 Inv-loop 
 shared-slice-read-put-below-2 c = search needs
 
 put-below-requires : tie.Need-put-below-requires Inv-loop μ-loop
-put-below-requires c κs = let r = step-room (ult-on (c .before .before .before .before .before .before .before .before .before .before .args .a .now) (c .before .before .before .before .before .before .before .before .before .before .args .b .now) (c .before .before .before .before .loop .i) (c .before .before .before .before .loop .next) (omega arith) (c .before .before .before .before .loop .carry)) (c .before .before .before .before .loop .inv) in (r .0, r .1)
+put-below-requires c κs =
+    let s = c .before .before .before .before .before .before .before .before .before .before in
+    let l = c .before .before .before .before .loop in
+    let r = step-room (ult-on (s .args .a .now) (s .args .b .now) (l .i) (l .next) (omega arith) (l .carry)) (l .inv) in
+    (r .0, r .1)
 
 add-next : tie.Need-add-next Inv-loop μ-loop
-add-next c = let r = step-room (ult-on (c .before .before .before .before .before .before .before .before .before .before .before .before .before .args .a .now) (c .before .before .before .before .before .before .before .before .before .before .before .before .before .args .b .now) (c .before .before .before .before .before .before .before .loop .i) (c .before .before .before .before .before .before .before .loop .next) (omega arith) (c .before .before .before .before .before .before .before .loop .carry)) (c .before .before .before .before .before .before .before .loop .inv) in omega (arith, r .0)
+add-next c =
+    let s = c .before .before .before .before .before .before .before .before .before .before .before .before .before in
+    let l = c .before .before .before .before .before .before .before .loop in
+    let r = step-room (ult-on (s .args .a .now) (s .args .b .now) (l .i) (l .next) (omega arith) (l .carry)) (l .inv) in
+    omega (arith, r .0)
 
 add-i : tie.Need-add-i Inv-loop μ-loop
 add-i c = search needs
@@ -46,10 +54,18 @@ loop-less : tie.Need-loop-less Inv-loop μ-loop
 loop-less c = search needs
 
 loop-again : tie.Need-loop-again Inv-loop μ-loop
-loop-again c = rw (c .before .before .put-below .ensures .0) (left-quiet (ult-on (c .before .before .before .before .before .before .before .before .before .before .before .before .before .args .a .now) (c .before .before .before .before .before .before .before .before .before .before .before .before .before .args .b .now) (c .before .before .before .before .before .before .before .loop .i) (c .before .before .before .before .before .before .before .loop .next) (omega arith) (c .before .before .before .before .before .before .before .loop .carry)) (c .before .before .before .before .before .before .before .loop .inv) (c .before .before .put-below .ensures .1) refl)
+loop-again c =
+    let s = c .before .before .before .before .before .before .before .before .before .before .before .before .before in
+    let l = c .before .before .before .before .before .before .before .loop in
+    let p = c .before .before .put-below .ensures in
+    rw (p .0) (left-quiet (ult-on (s .args .a .now) (s .args .b .now) (l .i) (l .next) (omega arith) (l .carry)) (l .inv) (p .1) refl)
 
 slice-write-outs : tie.Need-slice-write-outs Inv-loop μ-loop
-slice-write-outs c = let r = step-room (ult-end (c .before .before .before .before .before .before .before .args .a .now) (c .before .before .before .before .before .before .before .args .b .now) (c .before .loop .i) (c .before .loop .next) (omega arith) (c .before .loop .carry)) (c .before .loop .inv) in omega (arith, r .2)
+slice-write-outs c =
+    let s = c .before .before .before .before .before .before .before in
+    let l = c .before .loop in
+    let r = step-room (ult-end (s .args .a .now) (s .args .b .now) (l .i) (l .next) (omega arith) (l .carry)) (l .inv) in
+    omega (arith, r .2)
 
 sub-result : tie.Need-sub-result Inv-loop μ-loop
 sub-result c = omega (arith, c .before .loop .inv .since)
@@ -61,7 +77,10 @@ same-length-2 : tie.Need-same-length-2 Inv-loop μ-loop
 same-length-2 c = search needs
 
 returns : tie.Need-returns Inv-loop μ-loop
-returns c = left-none refl (left-bit (ult-end (c .before .before .before .before .before .before .before .args .a .now) (c .before .before .before .before .before .before .before .args .b .now) (c .before .loop .i) (c .before .loop .next) (omega arith) (c .before .loop .carry)) (c .before .loop .inv) (puts-nothing _ _) (omega arith) refl) refl
+returns c =
+    let s = c .before .before .before .before .before .before .before in
+    let l = c .before .loop in
+    left-none refl (left-bit (ult-end (s .args .a .now) (s .args .b .now) (l .i) (l .next) (omega arith) (l .carry)) (l .inv) (puts-nothing _ _) (omega arith) refl) refl
 
 pub make-ult-spec : {M : Type 1} → statement M
 make-ult-spec =

@@ -18,7 +18,8 @@ same-length : tie.Need-same-length
 same-length c = search needs
 
 returns : tie.Need-returns
-returns c = let p2 = c .before .before .put-carry .ensures in
+returns c =
+    let p2 = c .before .before .put-carry .ensures in
     let p1 = c .before .before .before .before .before .before .put .ensures in
     (omega arith, puts-then (p1 .1) refl (rw (p1 .0) at (p2 .1)))
 

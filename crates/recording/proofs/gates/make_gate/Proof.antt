@@ -1,7 +1,7 @@
-use Prim.Native.Nat.{_≤_, _-_}
+use Prim.Native.Nat.{_-_}
 use native.Mathlib.Omega.{arith}
 use mathlib.Core.Path.{refl}
-use lib.ListN.{length, drop}
+use lib.ListN.{drop}
 use Rattle.cells.specs.Records.{gateMade}
 use Rattle.recording.proofs.Bits.{gate-on, gate-end}
 use Rattle.recording.proofs.Left.{Left, left-whole, step-room, left-bit, left-none}
@@ -34,16 +34,28 @@ shared-slice-read-put-2 : tie.Need-shared-slice-read-put-2 Inv-loop μ-loop
 shared-slice-read-put-2 c = search needs
 
 put-requires : tie.Need-put-requires Inv-loop μ-loop
-put-requires c κs = let r = step-room (gate-on (c .before .before .before .before .before .before .before .before .before .before .args .a .now) (c .before .before .before .before .before .before .before .before .before .before .args .b .now) (c .before .before .before .before .loop .i) (c .before .before .before .before .loop .next) (omega arith) (c .before .before .before .before .before .before .before .before .before .before .args .op)) (c .before .before .before .before .loop .inv) in (omega (arith, r .0), omega (arith, r .1))
+put-requires c κs =
+    let s = c .before .before .before .before .before .before .before .before .before .before in
+    let l = c .before .before .before .before .loop in
+    let r = step-room (gate-on (s .args .a .now) (s .args .b .now) (l .i) (l .next) (omega arith) (s .args .op)) (l .inv) in
+    (omega (arith, r .0), omega (arith, r .1))
 
 mul-outs : tie.Need-mul-outs Inv-loop μ-loop
 mul-outs c = search needs
 
 slice-write-outs : tie.Need-slice-write-outs Inv-loop μ-loop
-slice-write-outs c = let r = step-room (gate-on (c .before .before .before .before .before .before .before .before .before .before .before .before .before .args .a .now) (c .before .before .before .before .before .before .before .before .before .before .before .before .before .args .b .now) (c .before .before .before .before .before .before .before .loop .i) (c .before .before .before .before .before .before .before .loop .next) (omega arith) (c .before .before .before .before .before .before .before .before .before .before .before .before .before .args .op)) (c .before .before .before .before .before .before .before .loop .inv) in omega (arith, r .2)
+slice-write-outs c =
+    let s = c .before .before .before .before .before .before .before .before .before .before .before .before .before in
+    let l = c .before .before .before .before .before .before .before .loop in
+    let r = step-room (gate-on (s .args .a .now) (s .args .b .now) (l .i) (l .next) (omega arith) (s .args .op)) (l .inv) in
+    omega (arith, r .2)
 
 add-next : tie.Need-add-next Inv-loop μ-loop
-add-next c = let r = step-room (gate-on (c .before .before .before .before .before .before .before .before .before .before .before .before .before .args .a .now) (c .before .before .before .before .before .before .before .before .before .before .before .before .before .args .b .now) (c .before .before .before .before .before .before .before .loop .i) (c .before .before .before .before .before .before .before .loop .next) (omega arith) (c .before .before .before .before .before .before .before .before .before .before .before .before .before .args .op)) (c .before .before .before .before .before .before .before .loop .inv) in omega (arith, r .0)
+add-next c =
+    let s = c .before .before .before .before .before .before .before .before .before .before .before .before .before in
+    let l = c .before .before .before .before .before .before .before .loop in
+    let r = step-room (gate-on (s .args .a .now) (s .args .b .now) (l .i) (l .next) (omega arith) (s .args .op)) (l .inv) in
+    omega (arith, r .0)
 
 add-i : tie.Need-add-i Inv-loop μ-loop
 add-i c = search needs
@@ -52,7 +64,11 @@ loop-less : tie.Need-loop-less Inv-loop μ-loop
 loop-less c = search needs
 
 loop-again : tie.Need-loop-again Inv-loop μ-loop
-loop-again c = left-bit (gate-on (c .before .before .before .before .before .before .before .before .before .before .before .before .before .args .a .now) (c .before .before .before .before .before .before .before .before .before .before .before .before .before .args .b .now) (c .before .before .before .before .before .before .before .loop .i) (c .before .before .before .before .before .before .before .loop .next) (omega arith) (c .before .before .before .before .before .before .before .before .before .before .before .before .before .args .op)) (c .before .before .before .before .before .before .before .loop .inv) (c .before .before .put .ensures .1) refl (c .before .before .put .ensures .0)
+loop-again c =
+    let s = c .before .before .before .before .before .before .before .before .before .before .before .before .before in
+    let l = c .before .before .before .before .before .before .before .loop in
+    let p = c .before .before .put .ensures in
+    left-bit (gate-on (s .args .a .now) (s .args .b .now) (l .i) (l .next) (omega arith) (s .args .op)) (l .inv) (p .1) refl (p .0)
 
 sub-result : tie.Need-sub-result Inv-loop μ-loop
 sub-result c = omega (arith, c .before .loop .inv .since)
@@ -64,7 +80,10 @@ same-length-2 : tie.Need-same-length-2 Inv-loop μ-loop
 same-length-2 c = c .before .loop .inv .wide
 
 returns : tie.Need-returns Inv-loop μ-loop
-returns c = left-none (gate-end (c .before .before .before .before .before .before .before .args .a .now) (c .before .before .before .before .before .before .before .args .b .now) (c .before .loop .i) (c .before .loop .next) (omega arith) (c .before .before .before .before .before .before .before .args .op)) (c .before .loop .inv) refl
+returns c =
+    let s = c .before .before .before .before .before .before .before in
+    let l = c .before .loop in
+    left-none (gate-end (s .args .a .now) (s .args .b .now) (l .i) (l .next) (omega arith) (s .args .op)) (l .inv) refl
 
 pub make-gate-spec : {M : Type 1} → statement M
 make-gate-spec =

@@ -1,4 +1,4 @@
-use Prim.Native.Nat.{_≤_, _-_}
+use Prim.Native.Nat.{_-_}
 use native.Mathlib.Omega.{arith}
 use mathlib.Core.Path.{refl}
 use lib.ListN.{length, drop}
@@ -25,16 +25,25 @@ shared-slice-read-put : tie.Need-shared-slice-read-put Inv-loop μ-loop
 shared-slice-read-put c = search needs
 
 put-requires : tie.Need-put-requires Inv-loop μ-loop
-put-requires c κs = let r = step-room (not-on (c .before .before .before .before .before .before .before .args .a .now) (c .before .before .before .loop .i) (c .before .before .before .loop .next) (omega arith)) (c .before .before .before .loop .inv) in (omega (arith, r .0), omega (arith, r .1))
+put-requires c κs =
+    let l = c .before .before .before .loop in
+    let r = step-room (not-on (c .before .before .before .before .before .before .before .args .a .now) (l .i) (l .next) (omega arith)) (l .inv) in
+    (omega (arith, r .0), omega (arith, r .1))
 
 mul-outs : tie.Need-mul-outs Inv-loop μ-loop
 mul-outs c = search needs
 
 slice-write-outs : tie.Need-slice-write-outs Inv-loop μ-loop
-slice-write-outs c = let r = step-room (not-on (c .before .before .before .before .before .before .before .before .before .before .args .a .now) (c .before .before .before .before .before .before .loop .i) (c .before .before .before .before .before .before .loop .next) (omega arith)) (c .before .before .before .before .before .before .loop .inv) in omega (arith, r .2)
+slice-write-outs c =
+    let l = c .before .before .before .before .before .before .loop in
+    let r = step-room (not-on (c .before .before .before .before .before .before .before .before .before .before .args .a .now) (l .i) (l .next) (omega arith)) (l .inv) in
+    omega (arith, r .2)
 
 add-next : tie.Need-add-next Inv-loop μ-loop
-add-next c = let r = step-room (not-on (c .before .before .before .before .before .before .before .before .before .before .args .a .now) (c .before .before .before .before .before .before .loop .i) (c .before .before .before .before .before .before .loop .next) (omega arith)) (c .before .before .before .before .before .before .loop .inv) in omega (arith, r .0)
+add-next c =
+    let l = c .before .before .before .before .before .before .loop in
+    let r = step-room (not-on (c .before .before .before .before .before .before .before .before .before .before .args .a .now) (l .i) (l .next) (omega arith)) (l .inv) in
+    omega (arith, r .0)
 
 add-i : tie.Need-add-i Inv-loop μ-loop
 add-i c = search needs
@@ -43,7 +52,10 @@ loop-less : tie.Need-loop-less Inv-loop μ-loop
 loop-less c = search needs
 
 loop-again : tie.Need-loop-again Inv-loop μ-loop
-loop-again c = left-bit (not-on (c .before .before .before .before .before .before .before .before .before .before .args .a .now) (c .before .before .before .before .before .before .loop .i) (c .before .before .before .before .before .before .loop .next) (omega arith)) (c .before .before .before .before .before .before .loop .inv) (c .before .before .put .ensures .1) refl (c .before .before .put .ensures .0)
+loop-again c =
+    let l = c .before .before .before .before .before .before .loop in
+    let p = c .before .before .put .ensures in
+    left-bit (not-on (c .before .before .before .before .before .before .before .before .before .before .args .a .now) (l .i) (l .next) (omega arith)) (l .inv) (p .1) refl (p .0)
 
 sub-result : tie.Need-sub-result Inv-loop μ-loop
 sub-result c = omega (arith, c .before .loop .inv .since)
@@ -55,7 +67,9 @@ same-length-2 : tie.Need-same-length-2 Inv-loop μ-loop
 same-length-2 c = c .before .loop .inv .wide
 
 returns : tie.Need-returns Inv-loop μ-loop
-returns c = left-none (not-end (c .before .before .before .before .before .args .a .now) (c .before .loop .i) (c .before .loop .next) (omega arith)) (c .before .loop .inv) refl
+returns c =
+    let l = c .before .loop in
+    left-none (not-end (c .before .before .before .before .before .args .a .now) (l .i) (l .next) (omega arith)) (l .inv) refl
 
 pub make-not-spec : {M : Type 1} → statement M
 make-not-spec =

@@ -34,16 +34,28 @@ shared-slice-read-put-chosen-2 : tie.Need-shared-slice-read-put-chosen-2 Inv-loo
 shared-slice-read-put-chosen-2 c = search needs
 
 put-chosen-requires : tie.Need-put-chosen-requires Inv-loop μ-loop
-put-chosen-requires c κs = let r = step-room (mux-on (c .before .before .before .before .before .before .before .before .before .before .args .a .now) (c .before .before .before .before .before .before .before .before .before .before .args .b .now) (c .before .before .before .before .loop .i) (c .before .before .before .before .loop .next) (omega arith) (c .before .before .before .before .before .before .before .before .before .before .args .s) (c .before .before .before .before .before .before .before .before .before .before .args .n) (c .before .before .before .before .before .before .before .before .before .before .args .x)) (c .before .before .before .before .loop .inv) in (r .0, r .1)
+put-chosen-requires c κs =
+    let s = c .before .before .before .before .before .before .before .before .before .before in
+    let l = c .before .before .before .before .loop in
+    let r = step-room (mux-on (s .args .a .now) (s .args .b .now) (l .i) (l .next) (omega arith) (s .args .s) (s .args .n) (s .args .x)) (l .inv) in
+    (r .0, r .1)
 
 mul-outs : tie.Need-mul-outs Inv-loop μ-loop
 mul-outs c = search needs
 
 slice-write-outs : tie.Need-slice-write-outs Inv-loop μ-loop
-slice-write-outs c = let r = step-room (mux-on (c .before .before .before .before .before .before .before .before .before .before .before .before .before .args .a .now) (c .before .before .before .before .before .before .before .before .before .before .before .before .before .args .b .now) (c .before .before .before .before .before .before .before .loop .i) (c .before .before .before .before .before .before .before .loop .next) (omega arith) (c .before .before .before .before .before .before .before .before .before .before .before .before .before .args .s) (c .before .before .before .before .before .before .before .before .before .before .before .before .before .args .n) (c .before .before .before .before .before .before .before .before .before .before .before .before .before .args .x)) (c .before .before .before .before .before .before .before .loop .inv) in omega (arith, r .2)
+slice-write-outs c =
+    let s = c .before .before .before .before .before .before .before .before .before .before .before .before .before in
+    let l = c .before .before .before .before .before .before .before .loop in
+    let r = step-room (mux-on (s .args .a .now) (s .args .b .now) (l .i) (l .next) (omega arith) (s .args .s) (s .args .n) (s .args .x)) (l .inv) in
+    omega (arith, r .2)
 
 add-next : tie.Need-add-next Inv-loop μ-loop
-add-next c = let r = step-room (mux-on (c .before .before .before .before .before .before .before .before .before .before .before .before .before .args .a .now) (c .before .before .before .before .before .before .before .before .before .before .before .before .before .args .b .now) (c .before .before .before .before .before .before .before .loop .i) (c .before .before .before .before .before .before .before .loop .next) (omega arith) (c .before .before .before .before .before .before .before .before .before .before .before .before .before .args .s) (c .before .before .before .before .before .before .before .before .before .before .before .before .before .args .n) (c .before .before .before .before .before .before .before .before .before .before .before .before .before .args .x)) (c .before .before .before .before .before .before .before .loop .inv) in omega (arith, r .0)
+add-next c =
+    let s = c .before .before .before .before .before .before .before .before .before .before .before .before .before in
+    let l = c .before .before .before .before .before .before .before .loop in
+    let r = step-room (mux-on (s .args .a .now) (s .args .b .now) (l .i) (l .next) (omega arith) (s .args .s) (s .args .n) (s .args .x)) (l .inv) in
+    omega (arith, r .0)
 
 add-i : tie.Need-add-i Inv-loop μ-loop
 add-i c = search needs
@@ -52,7 +64,11 @@ loop-less : tie.Need-loop-less Inv-loop μ-loop
 loop-less c = search needs
 
 loop-again : tie.Need-loop-again Inv-loop μ-loop
-loop-again c = left-bit (mux-on (c .before .before .before .before .before .before .before .before .before .before .before .before .before .args .a .now) (c .before .before .before .before .before .before .before .before .before .before .before .before .before .args .b .now) (c .before .before .before .before .before .before .before .loop .i) (c .before .before .before .before .before .before .before .loop .next) (omega arith) (c .before .before .before .before .before .before .before .before .before .before .before .before .before .args .s) (c .before .before .before .before .before .before .before .before .before .before .before .before .before .args .n) (c .before .before .before .before .before .before .before .before .before .before .before .before .before .args .x)) (c .before .before .before .before .before .before .before .loop .inv) (c .before .before .put-chosen .ensures .1) refl (c .before .before .put-chosen .ensures .0)
+loop-again c =
+    let s = c .before .before .before .before .before .before .before .before .before .before .before .before .before in
+    let l = c .before .before .before .before .before .before .before .loop in
+    let p = c .before .before .put-chosen .ensures in
+    left-bit (mux-on (s .args .a .now) (s .args .b .now) (l .i) (l .next) (omega arith) (s .args .s) (s .args .n) (s .args .x)) (l .inv) (p .1) refl (p .0)
 
 sub-result : tie.Need-sub-result Inv-loop μ-loop
 sub-result c = omega (arith, c .before .loop .inv .since)
@@ -64,7 +80,10 @@ same-length-2 : tie.Need-same-length-2 Inv-loop μ-loop
 same-length-2 c = c .before .loop .inv .wide
 
 returns : tie.Need-returns Inv-loop μ-loop
-returns c = left-none (mux-end (c .before .before .before .before .before .before .before .args .a .now) (c .before .before .before .before .before .before .before .args .b .now) (c .before .loop .i) (c .before .loop .next) (omega arith) (c .before .before .before .before .before .before .before .args .s) (c .before .before .before .before .before .before .before .args .n) (c .before .before .before .before .before .before .before .args .x)) (c .before .loop .inv) refl
+returns c =
+    let s = c .before .before .before .before .before .before .before in
+    let l = c .before .loop in
+    left-none (mux-end (s .args .a .now) (s .args .b .now) (l .i) (l .next) (omega arith) (s .args .s) (s .args .n) (s .args .x)) (l .inv) refl
 
 pub mux-bits-spec : {M : Type 1} → statement M
 mux-bits-spec =
