@@ -1,4 +1,5 @@
 pub mod Bits
 pub mod Choosing
+pub mod Fitting
 pub mod Left
 pub mod One
