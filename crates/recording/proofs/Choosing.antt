@@ -1,11 +1,14 @@
 -- What a cell of each kind makes, by the number of its kind.
 use mathlib.Core.Path.{_≡_}
+use mathlib.Core.Bool.{false}
 use mathlib.Core.List.{List, []}
-use Prim.Native.Nat.{ℕ}
+use Prim.Native.Nat.{ℕ, _<_, _≤_}
+use native.Mathlib.Omega.{arith}
+use lib.Dec.{eqb}
 use lib.ListN.{getD}
-use borrow.Author.Tests.{ne-eqb}
+use borrow.Author.Tests.{eqb-true, eqb-false, ne-eqb}
+use Rattle.ground.proofs.Bools.{bool-cases}
 use Rattle.kinds.specs.Kinds.{notKind, andKind, orKind, xorKind, muxKind, adcKind, eqKind, ultKind, sltKind}
-use Rattle.loadlist.specs.Records.{andOp, orOp, xorOp}
 use Rattle.cells.specs.Records.{made, notMade, gateMade, muxMade, adcMade, eqMade, ultMade, sltMade, kindMade}
 
 module _ (kind k : ℕ) (a b c : List ℕ) where
@@ -13,17 +16,12 @@ module _ (kind k : ℕ) (a b c : List ℕ) where
   unfolding kindMade
   as-not e = rw e
 
-  pub as-and : kind ≡ andKind → kindMade kind k a b c ≡ gateMade andOp k a b
+  pub as-gate : 5 ≤ kind → kind < 8 → kindMade kind k a b c ≡ gateMade kind k a b
   unfolding kindMade
-  as-and e = rw e
-
-  pub as-or : kind ≡ orKind → kindMade kind k a b c ≡ gateMade orOp k a b
-  unfolding kindMade
-  as-or e = rw e
-
-  pub as-xor : kind ≡ xorKind → kindMade kind k a b c ≡ gateMade xorOp k a b
-  unfolding kindMade
-  as-xor e = rw e
+  as-gate l h =
+      bool-cases (eqb kind andKind) (λ e. rw (eqb-true kind andKind e)) (λ p.
+      bool-cases (eqb kind orKind) (λ e. rw (eqb-true kind orKind e)) (λ q.
+      let m : kind ≡ xorKind = (let d = eqb-false kind andKind p in let g = eqb-false kind orKind q in omega arith) in rw m))
 
   pub as-mux : kind ≡ muxKind → kindMade kind k a b c ≡ muxMade k (getD a 0 0) b c
   unfolding kindMade
@@ -46,8 +44,18 @@ module _ (kind k : ℕ) (a b c : List ℕ) where
   as-slt e = rw e
 
   -- any other kind is a buffer
-  pub as-buf : (kind ≡ notKind → ⊥) → (kind ≡ andKind → ⊥) → (kind ≡ orKind → ⊥) → (kind ≡ xorKind → ⊥) → (kind ≡ muxKind → ⊥) → (kind ≡ adcKind → ⊥)
-      → (kind ≡ eqKind → ⊥) → (kind ≡ ultKind → ⊥) → (kind ≡ sltKind → ⊥) → kindMade kind k a b c ≡ made [] a
+  pub as-buf : ((n : ℕ) → notKind ≤ n → n ≤ sltKind → kind ≡ n → ⊥) → kindMade kind k a b c ≡ made [] a
   unfolding kindMade
-  as-buf a4 a5 a6 a7 a8 a9 b0 b1 b2 =
-      rw (ne-eqb kind notKind a4, ne-eqb kind andKind a5, ne-eqb kind orKind a6, ne-eqb kind xorKind a7, ne-eqb kind muxKind a8, ne-eqb kind adcKind a9, ne-eqb kind eqKind b0, ne-eqb kind ultKind b1, ne-eqb kind sltKind b2)
+  as-buf h =
+      let no-kind : (n : ℕ) → notKind ≤ n → n ≤ sltKind → eqb kind n ≡ false = λ n l m. ne-eqb kind n (h n l m) in
+      rw (
+        no-kind notKind (omega arith) (omega arith),
+        no-kind andKind (omega arith) (omega arith),
+        no-kind orKind (omega arith) (omega arith),
+        no-kind xorKind (omega arith) (omega arith),
+        no-kind muxKind (omega arith) (omega arith),
+        no-kind adcKind (omega arith) (omega arith),
+        no-kind eqKind (omega arith) (omega arith),
+        no-kind ultKind (omega arith) (omega arith),
+        no-kind sltKind (omega arith) (omega arith),
+      )

@@ -34,17 +34,15 @@ pub fn make(
     requires { ⌜ Room (kindMade kind k (now a) (now b) (now c)) k (now list) (now outs) ⌝ }
     ensures { λ r. ⌜ recorded r (now (list .exit)) (now (outs .exit)) ≡ recordedOf (kindMade kind k (now (a .entry)) (now (b .entry)) (now (c .entry))) k (now (list .entry)) (now (outs .entry)) ⌝ }
 {
+    if kind < 4 {
+        return make_buf(k, a, list, outs);
+    }
     if kind == 4 {
         return make_not(k, a, list, outs);
     }
-    if kind == 5 {
-        return make_gate(5, k, a, b, list, outs);
-    }
-    if kind == 6 {
-        return make_gate(6, k, a, b, list, outs);
-    }
-    if kind == 7 {
-        return make_gate(7, k, a, b, list, outs);
+    // and, or, xor have the numbers of their operations
+    if kind < 8 {
+        return make_gate(kind as u8, k, a, b, list, outs);
     }
     if kind == 8 {
         return make_mux(k, first_of(a), b, c, list, outs);

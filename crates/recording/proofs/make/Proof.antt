@@ -1,10 +1,12 @@
-use Rattle.recording.proofs.Choosing.{as-not, as-and, as-or, as-xor, as-mux, as-adc, as-eq, as-ult, as-slt, as-buf}
+use native.Mathlib.Omega.{arith}
+use Rattle.recording.proofs.Choosing.{as-not, as-gate, as-mux, as-adc, as-eq, as-ult, as-slt, as-buf}
 use borrow.Author.Needs.{needs}
 use Rattle.recording.proofs.make.Statement.{statement}
 use Rattle.recording.proofs.make.Tie as tie
 
-make-not-requires : tie.Need-make-not-requires
-make-not-requires c κs = let s = c .before .before .before .before .before .before .before .before in rw (as-not (s .args .kind) (s .args .k) (s .args .a .now) (s .args .b .now) (s .args .c .now) (c .before .before .if1 .taken)) at (s .pre)
+make-buf-requires : tie.Need-make-buf-requires
+make-buf-requires c κs = let s = c .before .before .before .before .before .before .before .before in
+    rw (as-buf (s .args .kind) (s .args .k) (s .args .a .now) (s .args .b .now) (s .args .c .now) (λ n l m e. omega arith)) at (s .pre)
 
 same-length : tie.Need-same-length
 same-length c = search needs
@@ -13,10 +15,12 @@ same-length-2 : tie.Need-same-length-2
 same-length-2 c = search needs
 
 returns : tie.Need-returns
-returns c = let s = c .before .before .before .before .before .before .before .before .before .before .before .before .before in rw (as-not (s .args .kind) (s .args .k) (s .args .a .now) (s .args .b .now) (s .args .c .now) (c .before .before .before .before .before .before .before .if1 .taken)) (c .before .before .before .before .make-not .ensures)
+returns c = let s = c .before .before .before .before .before .before .before .before .before .before .before .before .before in
+    rw (as-buf (s .args .kind) (s .args .k) (s .args .a .now) (s .args .b .now) (s .args .c .now) (λ n l m e. omega arith)) (c .before .before .before .before .make-buf .ensures)
 
-make-gate-requires : tie.Need-make-gate-requires
-make-gate-requires c κs = let s = c .before .before .before .before .before .before .before .before .before in rw (as-and (s .args .kind) (s .args .k) (s .args .a .now) (s .args .b .now) (s .args .c .now) (c .before .before .if2 .taken)) at (s .pre)
+make-not-requires : tie.Need-make-not-requires
+make-not-requires c κs = let s = c .before .before .before .before .before .before .before .before .before in
+    rw (as-not (s .args .kind) (s .args .k) (s .args .a .now) (s .args .b .now) (s .args .c .now) (c .before .before .if2 .taken)) at (s .pre)
 
 same-length-3 : tie.Need-same-length-3
 same-length-3 c = search needs
@@ -25,10 +29,15 @@ same-length-4 : tie.Need-same-length-4
 same-length-4 c = search needs
 
 returns-2 : tie.Need-returns-2
-returns-2 c = let s = c .before .before .before .before .before .before .before .before .before .before .before .before .before .before in rw (as-and (s .args .kind) (s .args .k) (s .args .a .now) (s .args .b .now) (s .args .c .now) (c .before .before .before .before .before .before .before .if2 .taken)) (c .before .before .before .before .make-gate .ensures)
+returns-2 c = let s = c .before .before .before .before .before .before .before .before .before .before .before .before .before .before in
+    rw (as-not (s .args .kind) (s .args .k) (s .args .a .now) (s .args .b .now) (s .args .c .now) (c .before .before .before .before .before .before .before .if2 .taken)) (c .before .before .before .before .make-not .ensures)
 
-make-gate-requires-2 : tie.Need-make-gate-requires-2
-make-gate-requires-2 c κs = let s = c .before .before .before .before .before .before .before .before .before .before in rw (as-or (s .args .kind) (s .args .k) (s .args .a .now) (s .args .b .now) (s .args .c .now) (c .before .before .if3 .taken)) at (s .pre)
+cast-make-gate : tie.Need-cast-make-gate
+cast-make-gate c = search needs
+
+make-gate-requires : tie.Need-make-gate-requires
+make-gate-requires c κs = let s = c .before .before .before .before .before .before .before .before .before .before in
+    rw (as-gate (s .args .kind) (s .args .k) (s .args .a .now) (s .args .b .now) (s .args .c .now) (omega arith) (omega arith)) at (s .pre)
 
 same-length-5 : tie.Need-same-length-5
 same-length-5 c = search needs
@@ -37,10 +46,15 @@ same-length-6 : tie.Need-same-length-6
 same-length-6 c = search needs
 
 returns-3 : tie.Need-returns-3
-returns-3 c = let s = c .before .before .before .before .before .before .before .before .before .before .before .before .before .before .before in rw (as-or (s .args .kind) (s .args .k) (s .args .a .now) (s .args .b .now) (s .args .c .now) (c .before .before .before .before .before .before .before .if3 .taken)) (c .before .before .before .before .make-gate2 .ensures)
+returns-3 c = let s = c .before .before .before .before .before .before .before .before .before .before .before .before .before .before .before in
+    rw (as-gate (s .args .kind) (s .args .k) (s .args .a .now) (s .args .b .now) (s .args .c .now) (omega arith) (omega arith)) (c .before .before .before .before .make-gate .ensures)
 
-make-gate-requires-3 : tie.Need-make-gate-requires-3
-make-gate-requires-3 c κs = let s = c .before .before .before .before .before .before .before .before .before .before .before in rw (as-xor (s .args .kind) (s .args .k) (s .args .a .now) (s .args .b .now) (s .args .c .now) (c .before .before .if4 .taken)) at (s .pre)
+first-of-requires : tie.Need-first-of-requires
+first-of-requires c κs = search needs
+
+make-mux-requires : tie.Need-make-mux-requires
+make-mux-requires c κs = let s = c .before .before .before .before .before .before .before .before .before .before .before .before in
+    rw (c .before .before .first-of .ensures) (rw (as-mux (s .args .kind) (s .args .k) (s .args .a .now) (s .args .b .now) (s .args .c .now) (c .before .before .before .if4 .taken)) at (s .pre))
 
 same-length-7 : tie.Need-same-length-7
 same-length-7 c = search needs
@@ -49,13 +63,15 @@ same-length-8 : tie.Need-same-length-8
 same-length-8 c = search needs
 
 returns-4 : tie.Need-returns-4
-returns-4 c = let s = c .before .before .before .before .before .before .before .before .before .before .before .before .before .before .before .before in rw (as-xor (s .args .kind) (s .args .k) (s .args .a .now) (s .args .b .now) (s .args .c .now) (c .before .before .before .before .before .before .before .if4 .taken)) (c .before .before .before .before .make-gate3 .ensures)
+returns-4 c = let s = c .before .before .before .before .before .before .before .before .before .before .before .before .before .before .before .before .before in
+    rw (as-mux (s .args .kind) (s .args .k) (s .args .a .now) (s .args .b .now) (s .args .c .now) (c .before .before .before .before .before .before .before .before .if4 .taken)) (rw (c .before .before .before .before .before .before .before .first-of .ensures) at (c .before .before .before .before .make-mux .ensures))
 
-first-of-requires : tie.Need-first-of-requires
-first-of-requires c κs = search needs
+first-of-requires-2 : tie.Need-first-of-requires-2
+first-of-requires-2 c κs = search needs
 
-make-mux-requires : tie.Need-make-mux-requires
-make-mux-requires c κs = let s = c .before .before .before .before .before .before .before .before .before .before .before .before .before in rw (c .before .before .first-of .ensures) (rw (as-mux (s .args .kind) (s .args .k) (s .args .a .now) (s .args .b .now) (s .args .c .now) (c .before .before .before .if5 .taken)) at (s .pre))
+make-adc-requires : tie.Need-make-adc-requires
+make-adc-requires c κs = let s = c .before .before .before .before .before .before .before .before .before .before .before .before .before in
+    rw (c .before .before .first-of2 .ensures) (rw (as-adc (s .args .kind) (s .args .k) (s .args .a .now) (s .args .b .now) (s .args .c .now) (c .before .before .before .if5 .taken)) at (s .pre))
 
 same-length-9 : tie.Need-same-length-9
 same-length-9 c = search needs
@@ -64,13 +80,12 @@ same-length-10 : tie.Need-same-length-10
 same-length-10 c = search needs
 
 returns-5 : tie.Need-returns-5
-returns-5 c = let s = c .before .before .before .before .before .before .before .before .before .before .before .before .before .before .before .before .before .before in rw (as-mux (s .args .kind) (s .args .k) (s .args .a .now) (s .args .b .now) (s .args .c .now) (c .before .before .before .before .before .before .before .before .if5 .taken)) (rw (c .before .before .before .before .before .before .before .first-of .ensures) at (c .before .before .before .before .make-mux .ensures))
+returns-5 c = let s = c .before .before .before .before .before .before .before .before .before .before .before .before .before .before .before .before .before .before in
+    rw (as-adc (s .args .kind) (s .args .k) (s .args .a .now) (s .args .b .now) (s .args .c .now) (c .before .before .before .before .before .before .before .before .if5 .taken)) (rw (c .before .before .before .before .before .before .before .first-of2 .ensures) at (c .before .before .before .before .make-adc .ensures))
 
-first-of-requires-2 : tie.Need-first-of-requires-2
-first-of-requires-2 c κs = search needs
-
-make-adc-requires : tie.Need-make-adc-requires
-make-adc-requires c κs = let s = c .before .before .before .before .before .before .before .before .before .before .before .before .before .before in rw (c .before .before .first-of2 .ensures) (rw (as-adc (s .args .kind) (s .args .k) (s .args .a .now) (s .args .b .now) (s .args .c .now) (c .before .before .before .if6 .taken)) at (s .pre))
+make-eq-requires : tie.Need-make-eq-requires
+make-eq-requires c κs = let s = c .before .before .before .before .before .before .before .before .before .before .before .before .before in
+    rw (as-eq (s .args .kind) (s .args .k) (s .args .a .now) (s .args .b .now) (s .args .c .now) (c .before .before .if6 .taken)) at (s .pre)
 
 same-length-11 : tie.Need-same-length-11
 same-length-11 c = search needs
@@ -79,10 +94,12 @@ same-length-12 : tie.Need-same-length-12
 same-length-12 c = search needs
 
 returns-6 : tie.Need-returns-6
-returns-6 c = let s = c .before .before .before .before .before .before .before .before .before .before .before .before .before .before .before .before .before .before .before in rw (as-adc (s .args .kind) (s .args .k) (s .args .a .now) (s .args .b .now) (s .args .c .now) (c .before .before .before .before .before .before .before .before .if6 .taken)) (rw (c .before .before .before .before .before .before .before .first-of2 .ensures) at (c .before .before .before .before .make-adc .ensures))
+returns-6 c = let s = c .before .before .before .before .before .before .before .before .before .before .before .before .before .before .before .before .before .before in
+    rw (as-eq (s .args .kind) (s .args .k) (s .args .a .now) (s .args .b .now) (s .args .c .now) (c .before .before .before .before .before .before .before .if6 .taken)) (c .before .before .before .before .make-eq .ensures)
 
-make-eq-requires : tie.Need-make-eq-requires
-make-eq-requires c κs = let s = c .before .before .before .before .before .before .before .before .before .before .before .before .before .before in rw (as-eq (s .args .kind) (s .args .k) (s .args .a .now) (s .args .b .now) (s .args .c .now) (c .before .before .if7 .taken)) at (s .pre)
+make-ult-requires : tie.Need-make-ult-requires
+make-ult-requires c κs = let s = c .before .before .before .before .before .before .before .before .before .before .before .before .before .before in
+    rw (as-ult (s .args .kind) (s .args .k) (s .args .a .now) (s .args .b .now) (s .args .c .now) (c .before .before .if7 .taken)) at (s .pre)
 
 same-length-13 : tie.Need-same-length-13
 same-length-13 c = search needs
@@ -91,10 +108,12 @@ same-length-14 : tie.Need-same-length-14
 same-length-14 c = search needs
 
 returns-7 : tie.Need-returns-7
-returns-7 c = let s = c .before .before .before .before .before .before .before .before .before .before .before .before .before .before .before .before .before .before .before in rw (as-eq (s .args .kind) (s .args .k) (s .args .a .now) (s .args .b .now) (s .args .c .now) (c .before .before .before .before .before .before .before .if7 .taken)) (c .before .before .before .before .make-eq .ensures)
+returns-7 c = let s = c .before .before .before .before .before .before .before .before .before .before .before .before .before .before .before .before .before .before .before in
+    rw (as-ult (s .args .kind) (s .args .k) (s .args .a .now) (s .args .b .now) (s .args .c .now) (c .before .before .before .before .before .before .before .if7 .taken)) (c .before .before .before .before .make-ult .ensures)
 
-make-ult-requires : tie.Need-make-ult-requires
-make-ult-requires c κs = let s = c .before .before .before .before .before .before .before .before .before .before .before .before .before .before .before in rw (as-ult (s .args .kind) (s .args .k) (s .args .a .now) (s .args .b .now) (s .args .c .now) (c .before .before .if8 .taken)) at (s .pre)
+make-slt-requires : tie.Need-make-slt-requires
+make-slt-requires c κs = let s = c .before .before .before .before .before .before .before .before .before .before .before .before .before .before .before in
+    rw (as-slt (s .args .kind) (s .args .k) (s .args .a .now) (s .args .b .now) (s .args .c .now) (c .before .before .if8 .taken)) at (s .pre)
 
 same-length-15 : tie.Need-same-length-15
 same-length-15 c = search needs
@@ -103,10 +122,12 @@ same-length-16 : tie.Need-same-length-16
 same-length-16 c = search needs
 
 returns-8 : tie.Need-returns-8
-returns-8 c = let s = c .before .before .before .before .before .before .before .before .before .before .before .before .before .before .before .before .before .before .before .before in rw (as-ult (s .args .kind) (s .args .k) (s .args .a .now) (s .args .b .now) (s .args .c .now) (c .before .before .before .before .before .before .before .if8 .taken)) (c .before .before .before .before .make-ult .ensures)
+returns-8 c = let s = c .before .before .before .before .before .before .before .before .before .before .before .before .before .before .before .before .before .before .before .before in
+    rw (as-slt (s .args .kind) (s .args .k) (s .args .a .now) (s .args .b .now) (s .args .c .now) (c .before .before .before .before .before .before .before .if8 .taken)) (c .before .before .before .before .make-slt .ensures)
 
-make-slt-requires : tie.Need-make-slt-requires
-make-slt-requires c κs = let s = c .before .before .before .before .before .before .before .before .before .before .before .before .before .before .before .before in rw (as-slt (s .args .kind) (s .args .k) (s .args .a .now) (s .args .b .now) (s .args .c .now) (c .before .before .if9 .taken)) at (s .pre)
+make-buf-requires-2 : tie.Need-make-buf-requires-2
+make-buf-requires-2 c κs = let s = c .before .before .before .before .before .before .before .before .before .before .before .before .before .before .before in
+    rw (as-buf (s .args .kind) (s .args .k) (s .args .a .now) (s .args .b .now) (s .args .c .now) (λ n l m e. omega arith)) at (s .pre)
 
 same-length-17 : tie.Need-same-length-17
 same-length-17 c = search needs
@@ -115,63 +136,49 @@ same-length-18 : tie.Need-same-length-18
 same-length-18 c = search needs
 
 returns-9 : tie.Need-returns-9
-returns-9 c = let s = c .before .before .before .before .before .before .before .before .before .before .before .before .before .before .before .before .before .before .before .before .before in rw (as-slt (s .args .kind) (s .args .k) (s .args .a .now) (s .args .b .now) (s .args .c .now) (c .before .before .before .before .before .before .before .if9 .taken)) (c .before .before .before .before .make-slt .ensures)
-
-make-buf-requires : tie.Need-make-buf-requires
-make-buf-requires c κs = let s = c .before .before .before .before .before .before .before .before .before .before .before .before .before .before .before .before in rw (as-buf (s .args .kind) (s .args .k) (s .args .a .now) (s .args .b .now) (s .args .c .now) (c .before .before .before .before .before .before .before .before .before .before .if1 .left) (c .before .before .before .before .before .before .before .before .before .if2 .left) (c .before .before .before .before .before .before .before .before .if3 .left) (c .before .before .before .before .before .before .before .if4 .left) (c .before .before .before .before .before .before .if5 .left) (c .before .before .before .before .before .if6 .left) (c .before .before .before .before .if7 .left) (c .before .before .before .if8 .left) (c .before .before .if9 .left)) at (s .pre)
-
-same-length-19 : tie.Need-same-length-19
-same-length-19 c = search needs
-
-same-length-20 : tie.Need-same-length-20
-same-length-20 c = search needs
-
-returns-10 : tie.Need-returns-10
-returns-10 c = let s = c .before .before .before .before .before .before .before .before .before .before .before .before .before .before .before .before .before .before .before .before .before in rw (as-buf (s .args .kind) (s .args .k) (s .args .a .now) (s .args .b .now) (s .args .c .now) (c .before .before .before .before .before .before .before .before .before .before .before .before .before .before .before .if1 .left) (c .before .before .before .before .before .before .before .before .before .before .before .before .before .before .if2 .left) (c .before .before .before .before .before .before .before .before .before .before .before .before .before .if3 .left) (c .before .before .before .before .before .before .before .before .before .before .before .before .if4 .left) (c .before .before .before .before .before .before .before .before .before .before .before .if5 .left) (c .before .before .before .before .before .before .before .before .before .before .if6 .left) (c .before .before .before .before .before .before .before .before .before .if7 .left) (c .before .before .before .before .before .before .before .before .if8 .left) (c .before .before .before .before .before .before .before .if9 .left)) (c .before .before .before .before .make-buf .ensures)
+returns-9 c = let s = c .before .before .before .before .before .before .before .before .before .before .before .before .before .before .before .before .before .before .before .before in
+    rw (as-buf (s .args .kind) (s .args .k) (s .args .a .now) (s .args .b .now) (s .args .c .now) (λ n l m e. omega arith)) (c .before .before .before .before .make-buf2 .ensures)
 
 pub make-spec : {M : Type 1} → statement M
 make-spec =
     tie.close
     (tie.spec
-    make-not-requires
+    make-buf-requires
     same-length
     same-length-2
     returns
-    make-gate-requires
+    make-not-requires
     same-length-3
     same-length-4
     returns-2
-    make-gate-requires-2
+    cast-make-gate
+    make-gate-requires
     same-length-5
     same-length-6
     returns-3
-    make-gate-requires-3
+    first-of-requires
+    make-mux-requires
     same-length-7
     same-length-8
     returns-4
-    first-of-requires
-    make-mux-requires
+    first-of-requires-2
+    make-adc-requires
     same-length-9
     same-length-10
     returns-5
-    first-of-requires-2
-    make-adc-requires
+    make-eq-requires
     same-length-11
     same-length-12
     returns-6
-    make-eq-requires
+    make-ult-requires
     same-length-13
     same-length-14
     returns-7
-    make-ult-requires
+    make-slt-requires
     same-length-15
     same-length-16
     returns-8
-    make-slt-requires
+    make-buf-requires-2
     same-length-17
     same-length-18
-    returns-9
-    make-buf-requires
-    same-length-19
-    same-length-20
-    returns-10)
+    returns-9)
