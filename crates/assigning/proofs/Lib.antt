@@ -1,2 +1,4 @@
 pub mod Laws
 pub mod Shown
+pub mod Parts
+pub mod Places

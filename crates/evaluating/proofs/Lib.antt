@@ -1,1 +1,4 @@
 pub mod Settles
+pub mod Widths
+pub mod Held
+pub mod Shown

@@ -60,7 +60,7 @@ module _ (N : Netlist) (valid-N : valid N ≡ true) (ins : List ℕ) where
   rule-local : (u v : Setting) (row : ℕ) → row < count → ((j : ℕ) → Wide (widthsOf (N .cells)) j → mem j (readsOf N row) ≡ true → u j ≡ v j) → ruleOf N ins u row ≡ ruleOf N ins v row
   rule-local u v row l h = bool-cases (eqb (cellAt N row .kind) inputKind) (λ e. rw e) (λ e. rw e (value-local u v row l h))
 
-  rule-value : (u : Setting) (row : ℕ) → apart N row ≡ false → ruleOf N ins u row ≡ cellValue u (cellAt N row)
+  pub rule-value : (u : Setting) (row : ℕ) → apart N row ≡ false → ruleOf N ins u row ≡ cellValue u (cellAt N row)
   rule-value u row h = rw (or-false (eqb (cellAt N row .kind) inputKind) (eqb (cellAt N row .kind) outputKind) h .0)
 
   -- AT MOST ONE: two settled settings agree on what is placed, row after row
@@ -73,7 +73,7 @@ module _ (N : Netlist) (valid-N : valid N ≡ true) (ins : List ℕ) where
       here = su r l ∙ rule-local u v r l (λ j w m. h j (ready-reads (readsOf N) P r d j m) (wide-no-output N valid-N j w)) ∙ sym (sv r l)
 
   module _ (free : ringed N ≡ false) where
-    all-placed : (j : ℕ) → j < count → order-placing (readsOf N) count (apart N) .marks j ≡ true
+    pub all-placed : (j : ℕ) → j < count → order-placing (readsOf N) count (apart N) .marks j ≡ true
     unfolding ringed
     all-placed j l = placing-marks (readsOf N) count (order-placing (readsOf N) count (apart N) .run) j ∙ all-in (readsOf N) count (apart N) free j l
 

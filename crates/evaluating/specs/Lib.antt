@@ -1,3 +1,4 @@
 pub mod Settled
 pub mod Evaluation
 pub mod Outcome
+pub mod InTables
