@@ -2,3 +2,4 @@ pub mod Settled
 pub mod Evaluation
 pub mod Outcome
 pub mod InTables
+pub mod Answered
