@@ -8,7 +8,7 @@ use native.Mathlib.Omega.{arith}
 use native.Mathlib.Decide.{decLt}
 use lib.Dec.{eqb, leb, ltb}
 use lib.ListN.{length, getD, take, drop, length-map, List·getD-map}
-use lib.Seq.{sets, length-sets, getD-take}
+use lib.Seq.{sets, length-sets, getD-take, take-all}
 use borrow.Author.Tests.{leb-true}
 use Rattle.ground.specs.Choice.{pick}
 use Rattle.ground.specs.Lists.{every, updated, joined}
@@ -23,15 +23,18 @@ use Rattle.kinds.specs.Kinds.{inputKind, outputKind}
 use Rattle.netlist.specs.Netlist.{Run, const, piece, Cell, Netlist}
 use Rattle.netlist.specs.Runs.{Bit, known, bit, falling, knownBits, operandBits}
 use Rattle.netlist.specs.Rules.{runSound, widthsOf, valid}
+use Rattle.cells.specs.Held.{heldBits}
 use Rattle.cells.specs.Operands.{bitFrom, bitsFrom}
 use Rattle.cells.specs.Values.{cellValue}
 use Rattle.cells.proofs.Linking.{RunsAsk}
 use Rattle.placing.specs.Placing.{noCell, cellAt, readsOf, outputFrom, outputsFrom, apart, placingOf, ringed}
 use Rattle.placing.proofs.Sound.{Wide, wide-no-output, cell-runs, cell-asks}
+use Rattle.assigning.specs.Rows.{widthIn}
 use Rattle.assigning.proofs.Parts.{part-written, part-behind, part-before}
 use Rattle.evaluating.specs.Settled.{Setting, ruleOf}
 use Rattle.evaluating.specs.Evaluation.{valuesFrom, assigned, evaluation}
-use Rattle.evaluating.specs.InTables.{heldBits, cellOf, rowValue, settledIn}
+use Rattle.valuing.specs.Row.{cellOf, rowValue}
+use Rattle.evaluating.specs.InTables.{settledIn}
 use Rattle.evaluating.proofs.Settles.{rule-value, all-placed}
 use Rattle.evaluating.proofs.Widths.{value-length}
 
@@ -121,7 +124,7 @@ module _ (N : Netlist) (valid-N : valid N ≡ true) where
 
     module _ (starts : List ℕ) (begin : (j : ℕ) → j < count → getD starts j 0 ≡ start j) where
       pub held-same : {P : ℕ → Bool} {v : Setting} {values : List ℕ} → Held P v values → (j : ℕ) → Wide widths j → P j ≡ true → Same (heldBits starts values) v widths j
-      unfolding part
+      unfolding part heldBits
       held-same {P} {v} {values} k j w p i l =
           let b = wide-below j w in
           let m : i < bitsOf j = rw (← width-at j) l in
@@ -165,14 +168,17 @@ module _ (N : Netlist) (valid-N : valid N ≡ true) where
         }
 
       -- ALL ROWS of an order of placing
-      module _ (cells : List ℕ) (pool : List Run) (shown : (u : Setting) (j : ℕ) → j < count → cellValue u (cellOf pool (drop (j * 9) cells)) ≡ cellValue u (cellAt N j)) (ins : List ℕ) where
+      module _ (cells : List ℕ) (pool : List Run) (shown : (u : Setting) (j : ℕ) → j < count → cellValue u (cellOf pool (drop (j * 9) cells)) ≡ cellValue u (cellAt N j))
+          (width : (j : ℕ) → j < count → widthIn (drop (j * 9) cells) ≡ bitsOf j) (ins : List ℕ) where
         pub values-held : {P Q : ℕ → Bool} {L : List ℕ} → Placing (readsOf N) count P L Q → ((j : ℕ) → apart N j ≡ true → P j ≡ true)
             → (v : Setting) (values : List ℕ) → Held P v values → Held Q (valuesFrom L N ins v) (settledIn L cells pool starts values)
         unfolding valuesFrom settledIn
         values-held (done s) a v values k = k
         values-held (step {P} {Q} {r} {L} l d run) a v values k =
             let other : apart N r ≡ false = bool-cases (apart N r) (λ t. never-both (a r t) (ready-unplaced (readsOf N) P r d)) (λ f. f) in
-            let e : sets values (getD starts r 0) (rowValue cells pool starts values r) ≡ sets values (start r) (cellValue (heldBits starts values) (cellAt N r)) =
-            ap₂ (λ (s : ℕ) (x : List ℕ). sets values s x) (begin r l) (shown (heldBits starts values) r l) in
+            let new = cellValue (heldBits starts values) (cellAt N r) in
+            let x : rowValue cells pool starts values r ≡ new =
+            ap₂ (λ (w : ℕ) (y : List ℕ). take w y) (width r l) (shown (heldBits starts values) r l) ∙ take-all (bitsOf r) new (omega (arith, value-length N valid-N (heldBits starts values) r l other)) in
+            let e : sets values (getD starts r 0) (rowValue cells pool starts values r) ≡ sets values (start r) new = ap₂ (λ (s : ℕ) (y : List ℕ). sets values s y) (begin r l) x in
             values-held run (λ j t. place-keeps P r j (a j t)) (updated v r (ruleOf N ins v r)) (sets values (getD starts r 0) (rowValue cells pool starts values r))
             (subst (Held (place P r) (updated v r (ruleOf N ins v r))) (sym e) (held-more ins k r l d other))

@@ -3,3 +3,8 @@ pub mod Widths
 pub mod Held
 pub mod Shown
 pub mod Ways
+pub mod Going
+pub mod Tables
+pub mod Ordered
+pub mod Settling
+pub mod Entry

@@ -22,6 +22,7 @@ use Rattle.netlist.specs.Tables.{Tables}
 use Rattle.netlist.specs.View.{cellIn, cellsIn, poolIn, view}
 use Rattle.netlist.specs.Good.{laid, good}
 use Rattle.netlist.proofs.Laying.{valid-roomy}
+use Rattle.cells.specs.Held.{heldBits}
 use Rattle.cells.specs.Operands.{bitsFrom}
 use Rattle.cells.specs.Values.{cellValue}
 use Rattle.cells.proofs.Linking.{length-bits}
@@ -32,7 +33,8 @@ use Rattle.assigning.proofs.Shown.{cells-length, cells-at, cells-front, cells-t
 use Rattle.assigning.proofs.Places.{assigned-length, assigned-at}
 use Rattle.evaluating.specs.Settled.{Setting, ruleOf}
 use Rattle.evaluating.specs.Evaluation.{assigned, evaluation}
-use Rattle.evaluating.specs.InTables.{heldBits, cellOf, settledIn, outputsIn, startsIn, valuesIn, evaluationIn}
+use Rattle.valuing.specs.Row.{cellOf}
+use Rattle.evaluating.specs.InTables.{settledIn, outputsIn, startsIn, valuesIn, evaluationIn}
 use Rattle.evaluating.proofs.Settles.{all-placed}
 use Rattle.evaluating.proofs.Held.{Held, held-same, output-same, values-held}
 
@@ -119,6 +121,9 @@ module _ (T : Tables) (g : good T ≡ true) where
   unfolding cellValue
   shown u j l = rw (cell-is j l)
 
+  width : (j : ℕ) → j < length (N .cells) → widthIn (drop (j * 9) cells) ≡ cellAt N j .width
+  width j l = ap (λ (c : Cell). c .width) (sym (cell-is j l))
+
   -- THE INPUTS are assigned
   module _ (ins : List ℕ) (fit : length ins ≡ inputBits N) where
     abbrev first : List ℕ
@@ -144,7 +149,7 @@ module _ (T : Tables) (g : good T ≡ true) where
     pub evaluation-shown : ringed N ≡ false → evaluationIn cells pool n (placingOf N) ins ≡ evaluation N ins
     unfolding evaluationIn evaluation outputsFrom placingOf view
     evaluation-shown free =
-        let k = values-held N is-valid start next 4096 most (startsIn cells n) begin cells pool shown ins (order-placing (readsOf N) (length (N .cells)) (apart N) .run) (λ j t. t) (assigned N ins) first held-first in
+        let k = values-held N is-valid start next 4096 most (startsIn cells n) begin cells pool shown width ins (order-placing (readsOf N) (length (N .cells)) (apart N) .run) (λ j t. t) (assigned N ins) first held-first in
         let values = settledIn (placingOf N) cells pool (startsIn cells n) first in
         outputs-shown T pool (heldBits (startsIn cells n) values) n cells
         ∙ joined-same (heldBits (startsIn cells n) values) _ (N .cells)

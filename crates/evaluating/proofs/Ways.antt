@@ -17,6 +17,7 @@ use Rattle.ground.specs.declared.Refusal.{Refusal}
 use Rattle.ground.proofs.Bools.{bool-cases, never-both, and-true}
 use Rattle.ground.proofs.Lent.{over-all, over-front, sets-front}
 use Rattle.ground.proofs.Outcome.{any-two}
+use Rattle.ground.proofs.Regions.{length-zeros}
 use Rattle.netlist.specs.Netlist.{Netlist}
 use Rattle.netlist.specs.Tables.{Tables, tablesIn}
 use Rattle.netlist.specs.Good.{short, good, checkOf, netlistIn}
@@ -58,6 +59,9 @@ some-room bits outs zs all outs′ n p h l e =
     let o : outs′ ≡ over (length bits) bits outs = e ∙ ap (λ (x : List ℕ). sets outs 0 x) t ∙ sets-front outs bits m in
     record { is = λ work. rw (le-ltb (length outs) (length bits) m) (ap₂ (λ (i : ℕ) (x : List ℕ). made (evaluated.Outputs i) x (cleared work)) k o) }
 
+pub told : {old new bits : List ℕ} {n : ℕ} → Put old 0 bits n new → n ≡ length bits
+told p = p .next ∙ omega arith
+
 -- ALL REFUSALS IN ORDER, in clear work space
 module _ (ring fits : Bool) (bits outs work work′ : List ℕ) (long : length work ≡ 8192) (clear : work′ ≡ zeros 8192) where
   is-clear : work′ ≡ cleared work
@@ -80,6 +84,16 @@ answered-is N ins ring fits bits outs work p q h = bool-cases (ringed N)
     (λ e. bool-cases (assigns (inputBits N) ins)
     (λ f. let b = h e (fit-length (inputBits N) ins f) in rw (p, q, e, f, b))
     (λ f. rw (p, q, e, f)))
+
+-- work spaces of one length are cleared alike
+pub cleared-same : (N : Netlist) (ins outs work′ work : List ℕ) → work′ ≡ zeros 8192 → length work ≡ 8192 → evaluatedOf N ins outs work′ ≡ evaluatedOf N ins outs work
+cleared-same N ins outs work′ work z l =
+    let e : cleared work′ ≡ cleared work = sym (clear-all work′ (ap length z ∙ length-zeros 8192)) ∙ clear-all work l in
+    bool-cases (ringed N)
+    (λ a. rw (a, e))
+    (λ a. bool-cases (assigns (inputBits N) ins)
+    (λ b. bool-cases (ltb (length outs) (length (evaluation N ins))) (λ d. rw (a, b, d, e)) (λ d. rw (a, b, d, e)))
+    (λ b. rw (a, b, e)))
 
 -- ANY LENT TABLES, in work space of its exact length
 module _ (rows strings bits ins outs work : List ℕ) (long : length work ≡ 8192) (here : short rows strings bits ≡ false) where

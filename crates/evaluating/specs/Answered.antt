@@ -7,6 +7,11 @@ use lib.Dec.{ltb}
 use lib.ListN.{length}
 use Rattle.ground.specs.Choice.{pick}
 use Rattle.ground.specs.Regions.{over}
+use Rattle.loadlist.specs.Run.{assigns}
+use Rattle.cells.specs.Held.{heldRuns}
+use Rattle.placing.specs.InTables.{orderIn, ringIn}
+use Rattle.assigning.specs.Rows.{inputIn, rowsTotal}
+use Rattle.evaluating.specs.InTables.{evaluationIn}
 use Rattle.evaluating.specs.Outcome.{Outcome, made, cleared, refused}
 use Rattle.evaluating.specs.declared.Evaluated.{Evaluated}
 use Rattle.evaluating.specs.declared.Evaluated.the-variants as evaluated
@@ -24,3 +29,8 @@ answered ring fits bits outs work = pick ring (refused 20 outs work) (pick (not 
 -- the same of the answer and the room alone, whatever the work space
 pub record Given (bits outs : List ℕ) (r : Evaluated) (outs′ : List ℕ) : Type 0 where
   pub is : (work : List ℕ) → made r outs′ (cleared work) ≡ given bits outs work
+
+-- an outcome that the words of tables say
+pub record Answers (cells runs trits : List ℕ) (n : ℕ) (ins outs work : List ℕ) (o : Outcome) : Type 0 where
+  pub is : o
+      ≡ answered (ringIn cells runs n) (assigns (rowsTotal inputIn n cells) ins) (evaluationIn cells (heldRuns runs trits) n (orderIn cells runs n) ins) outs work

@@ -2,4 +2,5 @@ pub mod Settled
 pub mod Evaluation
 pub mod Outcome
 pub mod InTables
+pub mod Sound
 pub mod Answered
