@@ -14,9 +14,18 @@ use Rattle.graph.proofs.Order.{order-below}
 use Rattle.placing.specs.InTables.{readsIn, apartIn, orderIn, PlacedAll}
 use Rattle.placing.specs.declared.Placed.{Placed}
 
-pub clear-again : (marks work : List ℕ) → marks ≡ zeros 512 → work ≡ zeros 8192 → marks ++ drop 512 work ≡ zeros 8192
+pub clear-again : (marks work : List ℕ) → marks ≡ zeros 1026 → work ≡ zeros 8192 → marks ++ drop 1026 work ≡ zeros 8192
 unfolding zeros
-clear-again marks work m w = ap₂ (λ (a b : List ℕ). a ++ b) m (ap (drop 512) w ∙ drop-zeros 512 8192) ∙ replicate-append-replicate 512 7680 0
+clear-again marks work m w = ap₂ (λ (a b : List ℕ). a ++ b) m (ap (drop 1026) w ∙ drop-zeros 1026 8192) ∙ replicate-append-replicate 1026 7166 0
+
+-- the front of clear work space is clear
+front-clear : (n m : ℕ) → take n (zeros (n + m)) ≡ zeros n
+unfolding zeros
+front-clear n m =
+    ap (take n) (sym (replicate-append-replicate n m 0)) ∙ subst (λ (k : ℕ). take k (zeros n ++ zeros m) ≡ zeros n) (length-zeros n) (take-append-seam (zeros n) (zeros m))
+
+pub marks-clear : (work : List ℕ) → work ≡ zeros 8192 → take 1026 work ≡ zeros 1026
+marks-clear work w = ap (take 1026) w ∙ front-clear 1026 7166
 
 member : (L : List ℕ) (i : ℕ) → i < length L → mem (getD L i 0) L ≡ true
 member [] i h = absurd (omega arith)
@@ -24,7 +33,7 @@ member (x ∷ L) zero h = mem-here x L
 member (x ∷ L) (suc i) h = mem-there (getD L i 0) x L (member L i (omega arith))
 
 module _ {cells runs : List ℕ} {n : ℕ} {rows marks : List ℕ} {answer : Placed} (p : PlacedAll cells runs n rows marks answer) where
-  pub placed-clear : PlacedAll cells runs n rows (zeros 512) answer
+  pub placed-clear : PlacedAll cells runs n rows (zeros 1026) answer
   placed-clear = record { rows-are = p .rows-are; clear = refl; count = p .count; ring = p .ring }
 
   -- as many rows as are counted are the order

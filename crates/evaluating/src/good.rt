@@ -47,9 +47,9 @@ fn fits(cells: &[u32], n: usize, ins: &[u8]) -> bool
 // The order of placing, with the front of the work space for its marks.
 fn order_rows(cells: &[u32], runs: &[u32], n: usize, order: &mut [u32], work: &mut [u32]) -> Placed
     requires { ⌜ Inside (now cells) (now runs) n × (now order ≡ zeros 512) × (now work ≡ zeros 8192) ⌝ }
-    ensures { λ r. ⌜ PlacedAll (now (cells .entry)) (now (runs .entry)) n (now (order .exit)) (zeros 512) r × (now (work .exit) ≡ zeros 8192) ⌝ }
+    ensures { λ r. ⌜ PlacedAll (now (cells .entry)) (now (runs .entry)) n (now (order .exit)) (zeros 1026) r × (now (work .exit) ≡ zeros 8192) ⌝ }
 {
-    place(cells, runs, n, order, &mut work[0..512])
+    place(cells, runs, n, order, &mut work[0..1026])
 }
 
 // The output bits, worked out first and then given, as far as there is room: a refusal leaves the room as it was.

@@ -1,4 +1,4 @@
-use Rattle.evaluating.proofs.Ordered.{clear-again, placed-clear}
+use Rattle.evaluating.proofs.Ordered.{clear-again, marks-clear, placed-clear}
 use Rattle.ground.proofs.Regions.{length-zeros}
 use lib.ListN.{length}
 use mathlib.Core.Path.{ap, _∙_}
@@ -24,7 +24,9 @@ part-place-end c = omega (arith, ap length (c .before .before .before .before .b
 
 -- src/good.rt:50:5
 place-requires : tie.Need-place-requires
-place-requires c κs = search needs
+place-requires c κs =
+    let p = c .before .before .before .before .before .before .pre in
+    (p .0, p .1, marks-clear _ (p .2))
 
 -- src/good.rt:46:1
 same-length : tie.Need-same-length
