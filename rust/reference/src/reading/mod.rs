@@ -6,6 +6,7 @@
 mod canonical;
 mod cells;
 mod checking;
+mod evaluate;
 #[cfg(test)]
 mod examples;
 mod full_name;
@@ -17,6 +18,7 @@ mod tables;
 
 pub use canonical::canonical;
 pub use checking::check;
+pub use evaluate::evaluate;
 pub use full_name::full_name;
 pub use printing::{print_by_buffer, print_into};
 pub use tables::{Tables, ROWS, STRINGS, TRITS};
