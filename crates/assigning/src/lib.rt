@@ -25,7 +25,7 @@ pub fn start_rows(rows: &[u32], n: usize, starts: &mut [u32])
 }
 
 // The bits that a row takes from an assignment: all of an input's, none of another's.
-fn input_width(kind: u32, width: u32) -> u32
+pub fn input_width(kind: u32, width: u32) -> u32
     ensures { λ r. ⌜ r ≡ pick (eqb kind 1) width 0 ⌝ }
 {
     if kind == 1 {

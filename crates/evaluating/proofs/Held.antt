@@ -51,7 +51,7 @@ known-same u v (t ∷ ts) = ap (λ (l : List ℕ). t ∷ l) (known-same u v ts)
 
 module _ (u v : Setting) (widths : List ℕ) where
   -- the settings agree on the bits of a row
-  abbrev Same : ℕ → Type 0
+  abbrev pub Same : ℕ → Type 0
   Same row = (i : ℕ) → i < getD widths row 0 → getD (u row) i 0 ≡ getD (v row) i 0
 
   bits-same : (rs : List Run) → every (runSound widths) rs ≡ true → RunsAsk Same rs → map (bitFrom u) (operandBits rs) ≡ map (bitFrom v) (operandBits rs)
@@ -70,7 +70,7 @@ module _ (u v : Setting) (widths : List ℕ) where
       ∙ ap₂ (λ (a b : List ℕ). a ++ b) (falling-same u v row o w (λ i l. q .0 i (omega (arith, l, k)))) (bits-same rs (p .1) (q .1))
       ∙ sym (map-append (bitFrom v) (falling row o w) (operandBits rs))
 
-  operand-same : (rs : List Run) → every (runSound widths) rs ≡ true → RunsAsk Same rs → bitsFrom u rs ≡ bitsFrom v rs
+  pub operand-same : (rs : List Run) → every (runSound widths) rs ≡ true → RunsAsk Same rs → bitsFrom u rs ≡ bitsFrom v rs
   unfolding bitsFrom
   operand-same rs h q = ap reverse (bits-same rs h q)
 
@@ -106,7 +106,7 @@ module _ (N : Netlist) (valid-N : valid N ≡ true) where
 
   -- THE PLACES of the rows' bits: one behind the other, in a room
   module _ (start : ℕ → ℕ) (next : (j : ℕ) → j < count → start (suc j) ≡ start j + bitsOf j) (room : ℕ) (most : start count ≤ room) where
-    start-below : (j k : ℕ) → j < k → k ≤ count → start j + bitsOf j ≤ start k
+    pub start-below : (j k : ℕ) → j < k → k ≤ count → start j + bitsOf j ≤ start k
     start-below j zero h l = absurd (omega arith)
     start-below j (suc k) h l = go (decLt j k) (λ m. start-below j k m (omega arith))
       where
@@ -114,7 +114,7 @@ module _ (N : Netlist) (valid-N : valid N ≡ true) where
         go (yes m) f = omega (arith, f m, next k (omega arith))
         go (no m) f = let e : j ≡ k = omega arith in rw e (omega (arith, next k (omega arith)))
 
-    start-room : (j : ℕ) → j < count → start j + bitsOf j ≤ room
+    pub start-room : (j : ℕ) → j < count → start j + bitsOf j ≤ room
     start-room j l = omega (arith, start-below j count l (omega arith), most)
 
     -- the rows of these marks hold what the setting holds, but outputs, which have no bits

@@ -27,7 +27,7 @@ front-clear n m =
 pub marks-clear : (work : List ℕ) → work ≡ zeros 8192 → take 1026 work ≡ zeros 1026
 marks-clear work w = ap (take 1026) w ∙ front-clear 1026 7166
 
-member : (L : List ℕ) (i : ℕ) → i < length L → mem (getD L i 0) L ≡ true
+pub member : (L : List ℕ) (i : ℕ) → i < length L → mem (getD L i 0) L ≡ true
 member [] i h = absurd (omega arith)
 member (x ∷ L) zero h = mem-here x L
 member (x ∷ L) (suc i) h = mem-there (getD L i 0) x L (member L i (omega arith))

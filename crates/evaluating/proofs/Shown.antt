@@ -44,7 +44,7 @@ unfolding outputsIn joined cellsIn
 outputs-shown T pool u zero rows = refl
 outputs-shown T pool u (suc n) rows = ap (λ (l : List ℕ). outputFrom u (cellOf pool rows) ++ l) (outputs-shown T pool u n (drop 9 rows))
 
-joined-same : (u v : Setting) (cs : List Cell) → ((i : ℕ) → i < length cs → outputFrom u (getD cs i noCell) ≡ outputFrom v (getD cs i noCell)) → joined (outputFrom u) cs ≡ joined (outputFrom v) cs
+pub joined-same : (u v : Setting) (cs : List Cell) → ((i : ℕ) → i < length cs → outputFrom u (getD cs i noCell) ≡ outputFrom v (getD cs i noCell)) → joined (outputFrom u) cs ≡ joined (outputFrom v) cs
 unfolding joined
 joined-same u v [] h = refl
 joined-same u v (c ∷ cs) h = ap₂ (λ (a b : List ℕ). a ++ b) (h 0 (omega arith)) (joined-same u v cs (λ i l. h (suc i) (omega arith)))
@@ -96,19 +96,19 @@ module _ (T : Tables) (g : good T ≡ true) where
   unfolding view
   inputs-before j l = ap (total inputWidth) (cells-front T pool n cells j (omega (arith, cells-length T pool n cells))) ∙ cells-total T pool inputWidth inputIn (λ row. refl) j cells
 
-  abbrev start : ℕ → ℕ
+  abbrev pub start : ℕ → ℕ
   start j = rowsTotal widthIn j cells
 
-  next : (j : ℕ) → j < length (N .cells) → start (suc j) ≡ start j + cellAt N j .width
+  pub next : (j : ℕ) → j < length (N .cells) → start (suc j) ≡ start j + cellAt N j .width
   next j l = total-last widthIn j cells ∙ ap (λ (c : Cell). start j + c .width) (sym (cell-is j l))
 
-  most : start (length (N .cells)) ≤ 4096
+  pub most : start (length (N .cells)) ≤ 4096
   most = rw count-is widths-are
 
   few : n ≤ 512
   few = let r : length (N .cells) ≤ 512 = valid-roomy N is-valid .cells in omega (arith, r, count-is)
 
-  begin : (j : ℕ) → j < length (N .cells) → getD (startsIn cells n) j 0 ≡ start j
+  pub begin : (j : ℕ) → j < length (N .cells) → getD (startsIn cells n) j 0 ≡ start j
   unfolding over
   begin j l =
       let x = startsFrom 0 n cells in
@@ -126,7 +126,7 @@ module _ (T : Tables) (g : good T ≡ true) where
 
   -- THE INPUTS are assigned
   module _ (ins : List ℕ) (fit : length ins ≡ inputBits N) where
-    abbrev first : List ℕ
+    abbrev pub first : List ℕ
     first = assignedIn n cells ins 0 0 (zeros 4096)
 
     input-held : (j : ℕ) → j < length (N .cells) → eqb (cellAt N j .kind) inputKind ≡ true → part (start j) (cellAt N j .width) first ≡ assigned N ins j
@@ -139,7 +139,7 @@ module _ (T : Tables) (g : good T ≡ true) where
         let y : 0 + rowsTotal inputIn j cells ≡ inputStart N j = omega (arith, inputs-before j l) in
         rw e (ap (λ (x : Cell). part (start j) (x .width) first) c ∙ (rw (z, y) at a) ∙ ap (λ (x : Cell). part (inputStart N j) (x .width) ins) (sym c))
 
-    held-first : Held N is-valid start next 4096 most (apart N) (assigned N ins) first
+    pub held-first : Held N is-valid start next 4096 most (apart N) (assigned N ins) first
     held-first = record {
       long = assigned-length n cells ins 0 0 (zeros 4096) ∙ length-zeros 4096;
       holds = λ j l p o. ⊎-elim (λ e. input-held j l e) (λ e. never-both e o) (or-true (eqb (cellAt N j .kind) inputKind) (eqb (cellAt N j .kind) outputKind) p);

@@ -45,7 +45,13 @@ fn fits(cells: &[u32], n: usize, ins: &[u8]) -> bool
 }
 
 // The order of placing, with the front of the work space for its marks.
-fn order_rows(cells: &[u32], runs: &[u32], n: usize, order: &mut [u32], work: &mut [u32]) -> Placed
+pub fn order_rows(
+    cells: &[u32],
+    runs: &[u32],
+    n: usize,
+    order: &mut [u32],
+    work: &mut [u32],
+) -> Placed
     requires { ⌜ Inside (now cells) (now runs) n × (now order ≡ zeros 512) × (now work ≡ zeros 8192) ⌝ }
     ensures { λ r. ⌜ PlacedAll (now (cells .entry)) (now (runs .entry)) n (now (order .exit)) (zeros 1026) r × (now (work .exit) ≡ zeros 8192) ⌝ }
 {

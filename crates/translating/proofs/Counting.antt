@@ -83,12 +83,12 @@ unfolding upto
 none-waiting f Q zero h = refl
 none-waiting f Q (suc n) h = omega (arith, ap (λ (b : Bool). pick b 0 (f n)) (h n (omega arith)), none-waiting f Q n (λ i l. h i (omega arith)))
 
-length-inputs : (n i : ℕ) → length (inputRecords (upFrom i n)) ≡ n
+pub length-inputs : (n i : ℕ) → length (inputRecords (upFrom i n)) ≡ n
 unfolding inputRecords upFrom
 length-inputs zero i = refl
 length-inputs (suc n) i = ap suc (length-inputs n (i + 1))
 
-length-outputs : (xs : List ℕ) (j : ℕ) → length (outputRecords xs j) ≡ length xs
+pub length-outputs : (xs : List ℕ) (j : ℕ) → length (outputRecords xs j) ≡ length xs
 unfolding outputRecords
 length-outputs [] j = refl
 length-outputs (x ∷ xs) j = ap suc (length-outputs xs (j + 1))

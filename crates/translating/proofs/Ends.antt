@@ -60,7 +60,7 @@ input-early ins (suc w) s l =
     (omega arith, subst (λ (z : ℕ). Early (begun ins) (upFrom z w)) (sym e) (input-early ins w (s + 1) (omega arith)))
 
 -- a row's share lies within the whole
-total-within : (f : Cell → ℕ) (cs : List Cell) (row : ℕ) → row < length cs → total f (take row cs) + f (getD cs row noCell) ≤ total f cs
+pub total-within : (f : Cell → ℕ) (cs : List Cell) (row : ℕ) → row < length cs → total f (take row cs) + f (getD cs row noCell) ≤ total f cs
 unfolding total
 total-within f [] row l = absurd (omega arith)
 total-within f (c ∷ cs) zero l = omega arith

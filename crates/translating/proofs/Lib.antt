@@ -3,3 +3,12 @@ pub mod Ends
 pub mod Whole
 pub mod Counting
 pub mod Passing
+pub mod Listing
+pub mod Rowing
+pub mod Outs
+pub mod HeldSlots
+pub mod Tabled
+pub mod Sums
+pub mod Ways
+pub mod Putting
+pub mod Lent

@@ -1,2 +1,5 @@
 pub mod Translation
 pub mod Outcome
+pub mod InTables
+pub mod Sound
+pub mod Answered
