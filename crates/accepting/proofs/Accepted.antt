@@ -14,9 +14,9 @@ use Rattle.ground.specs.declared.Place.{Place}
 use Rattle.ground.specs.declared.Refusal.{Refusal}
 use Rattle.ground.proofs.Bools.{facts, every-first, every-more}
 use Rattle.kinds.specs.Kinds.{inputKind, outputKind}
-use Rattle.lexis.specs.Whole.{wholeOf}
-use Rattle.lexis.specs.declared.Whole.{Whole}
-use Rattle.lexis.specs.declared.Whole.the-variants as whole
+use Rattle.scanning.specs.Whole.{wholeOf}
+use Rattle.scanning.specs.declared.Whole.{Whole}
+use Rattle.scanning.specs.declared.Whole.the-variants as whole
 use Rattle.form.specs.Forms.{formAt}
 use Rattle.form.specs.declared.Form.{Form}
 use Rattle.form.specs.declared.Form.the-variants as form

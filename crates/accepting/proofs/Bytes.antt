@@ -13,12 +13,12 @@ use Rattle.ground.specs.Lists.{every}
 use Rattle.ground.specs.Regions.{zeros, part}
 use Rattle.ground.proofs.Bools.{bool-cases, and-true, every-first, every-more, every-at}
 use Rattle.ground.proofs.Tables.{at}
-use Rattle.lexis.specs.Bytes.{Range, inRange, classFrom, classOf, isConstant, isHex, isRaw, hexOf, tritOf}
-use Rattle.lexis.specs.Pieces.{spanEnd, Str, whole, broken, prefixed, stringFrom, bytesIn, decoded}
-use Rattle.lexis.specs.Whole.{Sequence, sequences, tailOf, lacksPast, beganAt, badFrom, badAt, ending, unsound, wholeOf}
-use Rattle.lexis.specs.declared.Whole.the-variants as whole
-use Rattle.lexis.proofs.Bytes.{within-true}
-use Rattle.lexis.proofs.Strings.{hex-low, hex-high, hex-inside}
+use Rattle.signs.specs.Bytes.{Range, inRange, classFrom, classOf, isConstant, isHex, isRaw, hexOf, tritOf}
+use Rattle.signs.specs.Pieces.{spanEnd, Str, whole, broken, prefixed, stringFrom, bytesIn, decoded}
+use Rattle.scanning.specs.Whole.{Sequence, sequences, tailOf, lacksPast, beganAt, badFrom, badAt, ending, unsound, wholeOf}
+use Rattle.scanning.specs.declared.Whole.the-variants as whole
+use Rattle.signs.proofs.Bytes.{within-true}
+use Rattle.signs.proofs.Strings.{hex-low, hex-high, hex-inside}
 use Rattle.netlist.specs.Rules.{isByte, isTrit}
 
 never-some : {A P : Type 0} (x : A) → none ≡ some x → P

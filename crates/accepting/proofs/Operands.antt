@@ -12,19 +12,19 @@ use Rattle.ground.specs.Lists.{every, joined}
 use Rattle.ground.specs.Regions.{part}
 use Rattle.ground.specs.declared.Place.{Place}
 use Rattle.ground.proofs.Bools.{bool-cases, and-true, true-and, every-first, every-more}
-use Rattle.lexis.specs.Bytes.{isConstant}
+use Rattle.signs.specs.Bytes.{isConstant}
 use Rattle.lexis.specs.Tokens.{tokenAt, insideAt, constant}
 use Rattle.lexis.specs.declared.Reader.{Reader}
 use Rattle.lexis.specs.declared.Token.{Token}
 use Rattle.lexis.specs.declared.Step.{Step}
 use Rattle.lexis.specs.declared.Step.the-variants as step
-use Rattle.form.specs.Words.{isSort}
-use Rattle.form.specs.Parts.{PartAt, isPart, baseOf, partOf, nextPart, partsFrom, partsOf, partsAt}
-use Rattle.form.specs.declared.Base.{Base}
-use Rattle.form.specs.declared.Base.the-variants as base
-use Rattle.form.specs.declared.Part.{Part}
-use Rattle.form.specs.declared.Part.the-variants as part
-use Rattle.form.specs.declared.Operand.{Operand}
+use Rattle.brackets.specs.Words.{isSort}
+use Rattle.brackets.specs.Parts.{PartAt, isPart, baseOf, partOf, nextPart, partsFrom, partsOf, partsAt}
+use Rattle.brackets.specs.declared.Base.{Base}
+use Rattle.brackets.specs.declared.Base.the-variants as base
+use Rattle.brackets.specs.declared.Part.{Part}
+use Rattle.brackets.specs.declared.Part.the-variants as part
+use Rattle.brackets.specs.declared.Operand.{Operand}
 use Rattle.netlist.specs.Netlist.{Run, const, piece}
 use Rattle.netlist.specs.Runs.{Bit, known, bit, falling, knownBits, runsWith, cut, longest}
 use Rattle.netlist.specs.Rules.{isByte, isTrit, resolves, operandSound}

@@ -12,11 +12,11 @@ use Rattle.ground.specs.Lists.{every, allOf}
 use Rattle.ground.specs.declared.Place.{Place}
 use Rattle.ground.proofs.Bools.{bool-cases, and-true, and-false, or-right, facts, every-first, every-more}
 use Rattle.kinds.specs.Kinds.{kindAt, isKind}
-use Rattle.lexis.specs.Pieces.{decoded}
-use Rattle.form.specs.Parts.{membersAt}
-use Rattle.form.specs.declared.Ref.{Ref}
+use Rattle.signs.specs.Pieces.{decoded}
+use Rattle.brackets.specs.Parts.{membersAt}
+use Rattle.brackets.specs.declared.Ref.{Ref}
 use Rattle.form.specs.declared.Range.{Range}
-use Rattle.form.specs.declared.Operand.{Operand}
+use Rattle.brackets.specs.declared.Operand.{Operand}
 use Rattle.form.specs.declared.Wiring.{Wiring}
 use Rattle.form.specs.declared.Label.{Label}
 use Rattle.form.specs.declared.Label.the-variants as label

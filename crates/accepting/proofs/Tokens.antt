@@ -12,16 +12,16 @@ use Rattle.ground.specs.Lists.{every}
 use Rattle.ground.specs.Regions.{part}
 use Rattle.ground.proofs.Bools.{bool-cases, never-both}
 use Rattle.kinds.proofs.Widths.{picked}
-use Rattle.lexis.specs.Bytes.{isConstant, isLetter, isFeed, isSpecial}
-use Rattle.lexis.specs.Pieces.{spanEnd, digitsFrom, numeralAt, suffixAt, quotedAt}
+use Rattle.signs.specs.Bytes.{isConstant, isLetter, isFeed, isSpecial}
+use Rattle.signs.specs.Pieces.{spanEnd, digitsFrom, numeralAt, suffixAt, quotedAt}
 use Rattle.lexis.specs.Tokens.{refused, plain, judged, single, signedOf, opensPlaceholder, follows, constantOf, cellOf, namedFrom, ioOf, stringStep, numberOf, metaOf, wordOf, longOf, tokenFrom, tokenAt, insideAt, constant, number, meta, placeholder}
 use Rattle.lexis.specs.declared.Token.{Token}
 use Rattle.lexis.specs.declared.Step.{Step}
 use Rattle.lexis.specs.declared.Step.the-variants as step
-use Rattle.lexis.specs.declared.pieces.Numeral.{Numeral}
-use Rattle.lexis.specs.declared.pieces.Quoted.{Quoted}
-use Rattle.lexis.specs.declared.pieces.Quoted.the-variants.{Closed, Malformed}
-use Rattle.form.specs.Words.{isSort}
+use Rattle.signs.specs.declared.pieces.Numeral.{Numeral}
+use Rattle.signs.specs.declared.pieces.Quoted.{Quoted}
+use Rattle.signs.specs.declared.pieces.Quoted.the-variants.{Closed, Malformed}
+use Rattle.brackets.specs.Words.{isSort}
 use Rattle.saying.proofs.Tokens.{Nothing}
 use Rattle.accepting.proofs.Bytes.{span-part}
 

@@ -12,9 +12,9 @@ use Rattle.ground.specs.Lists.{joined}
 use Rattle.ground.specs.Regions.{zeros, pad}
 use Rattle.ground.specs.Text.{same}
 use Rattle.ground.proofs.Bools.{bool-cases, never-both}
-use Rattle.lexis.specs.Pieces.{decoded}
-use Rattle.lexis.specs.declared.decode.Meant.{Meant}
-use Rattle.lexis.proofs.Strings.{next-meant, raw-next}
+use Rattle.signs.specs.Pieces.{decoded}
+use Rattle.signs.specs.declared.decode.Meant.{Meant}
+use Rattle.signs.proofs.Strings.{next-meant, raw-next}
 use Rattle.netlist.specs.Rules.{taken, ioNames, namesAs}
 use Rattle.saying.specs.Notes.{IoNote, CellNote, ioNote, cellNote, iosSaid, cellsSaid, Spells, SpellIos, SpellCells, more}
 use Rattle.asking.specs.Namesakes.{sameRaw, someRow, namesake, ioNamesake, cellNamesake, Sized, IosNoted, CellsNoted, Passes}

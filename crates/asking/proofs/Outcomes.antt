@@ -8,8 +8,8 @@ use Rattle.ground.specs.Lists.{joined}
 use Rattle.ground.specs.Regions.{pad}
 use Rattle.ground.specs.Text.{same}
 use Rattle.ground.proofs.Outcome.{any-two}
-use Rattle.lexis.specs.Pieces.{decoded}
-use Rattle.form.specs.Parts.{membersAt}
+use Rattle.signs.specs.Pieces.{decoded}
+use Rattle.brackets.specs.Parts.{membersAt}
 use Rattle.netlist.specs.Rules.{badRange, taken, ioNames, namesAs}
 use Rattle.saying.specs.Notes.{IoNote, CellNote, ioNote, cellNote, iosSaid, cellsSaid, SpellIos, SpellCells}
 use Rattle.asking.specs.Namesakes.{IosNoted, CellsNoted}

@@ -10,12 +10,12 @@ use borrow.Author.Tests.{leb-true, ltb-true}
 use Rattle.ground.specs.Lists.{joined, every}
 use Rattle.ground.specs.Regions.{zeros, pad}
 use Rattle.ground.proofs.Bools.{bool-cases, every-first}
-use Rattle.form.specs.Parts.{membersAt, membersFrom}
-use Rattle.form.specs.Walks.{tourAt, tourStep, membersLeft, membersOn}
-use Rattle.form.specs.declared.Ref.{Ref}
-use Rattle.form.specs.declared.Tour.{Tour}
-use Rattle.form.specs.declared.Toured.the-variants as toured
-use Rattle.form.proofs.Steps.{tour-starts, tour-goes}
+use Rattle.brackets.specs.Parts.{membersAt, membersFrom}
+use Rattle.brackets.specs.Walks.{tourAt, tourStep, membersLeft, membersOn}
+use Rattle.brackets.specs.declared.Ref.{Ref}
+use Rattle.brackets.specs.declared.Tour.{Tour}
+use Rattle.brackets.specs.declared.Toured.the-variants as toured
+use Rattle.brackets.proofs.Steps.{tour-starts, tour-goes}
 use Rattle.netlist.specs.Rules.{refers, isMember}
 use Rattle.saying.specs.Values.{rowOf}
 use Rattle.saying.specs.Notes.{MetaNote, metaNote, Maps}

@@ -10,11 +10,11 @@ use Rattle.ground.proofs.Bools.{bool-cases, every-more, or-left}
 use Rattle.lexis.specs.Tokens.{insideAt, cell, io, meta}
 use Rattle.lexis.specs.declared.Step.{Step}
 use Rattle.lexis.specs.declared.Step.the-variants as step
-use Rattle.form.specs.Words.{isSort}
-use Rattle.form.specs.Parts.{memberedOf, nextMember, membersFrom}
-use Rattle.form.specs.declared.Ref.{Ref}
-use Rattle.form.specs.declared.Membered.{Membered}
-use Rattle.form.specs.declared.Membered.the-variants as membered
+use Rattle.brackets.specs.Words.{isSort}
+use Rattle.brackets.specs.Parts.{memberedOf, nextMember, membersFrom}
+use Rattle.brackets.specs.declared.Ref.{Ref}
+use Rattle.brackets.specs.declared.Membered.{Membered}
+use Rattle.brackets.specs.declared.Membered.the-variants as membered
 use Rattle.saying.proofs.Tokens.{SoundStep, inside-sound}
 
 abbrev SmallMember : Membered → Type 0

@@ -10,7 +10,7 @@ use Rattle.ground.specs.Choice.{pick}
 use Rattle.ground.specs.Lists.{joined}
 use Rattle.ground.specs.Regions.{pad}
 use Rattle.ground.specs.Text.{same}
-use Rattle.lexis.specs.Pieces.{decoded}
+use Rattle.signs.specs.Pieces.{decoded}
 use Rattle.saying.specs.Notes.{IoNote, CellNote, ioNote, cellNote, SpellIos, SpellCells}
 
 -- whether the same byte stands at two places of the text, one that means itself

@@ -5,7 +5,7 @@ use Prim.Native.Nat.{ℕ, _-_, _*_}
 use lib.Dec.{leb}
 use lib.ListN.{getD}
 use Rattle.ground.specs.Choice.{pick}
-use Rattle.form.specs.declared.Ref.{Ref}
+use Rattle.brackets.specs.declared.Ref.{Ref}
 use Rattle.netlist.specs.Netlist.{isScope}
 use Rattle.netlist.specs.Rules.{refers, anyKind, isMember, isSource}
 use Rattle.saying.specs.Values.{rowOf}

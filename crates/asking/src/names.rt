@@ -6,12 +6,12 @@ ghost use lib.ListN.{length, drop, getD};
 ghost use Rattle.ground.specs.Lists.{joined};
 ghost use Rattle.ground.specs.Regions.{pad};
 ghost use Rattle.ground.specs.Text.{same};
-ghost use Rattle.lexis.specs.Pieces.{decoded};
+ghost use Rattle.signs.specs.Pieces.{decoded};
 ghost use Rattle.netlist.specs.Rules.{taken, ioNames, namesAs};
 ghost use Rattle.saying.specs.Notes.{IoNote, CellNote, ioNote, cellNote, iosSaid, cellsSaid, SpellIos, SpellCells};
 ghost use Rattle.asking.specs.Namesakes.{sameRaw, namesake, ioNamesake, cellNamesake, Sized, IosNoted, CellsNoted, Passes};
 use crate::word_at;
-use lexis::decode::next_byte;
+use signs::decode::next_byte;
 
 // Whether two places of the text hold the same byte, one that means itself.
 fn same_raw(text: &[u8], i: usize, j: usize) -> bool

@@ -4,9 +4,9 @@
 use form::Form;
 use ground::Place;
 use lexis::Reader;
-use lexis::Whole;
 use libc::STDIN_FILENO;
 use libc::STDOUT_FILENO;
+use scanning::Whole;
 use worked::find;
 use worked::put_text;
 use worked::tell_refused;
@@ -44,7 +44,7 @@ fn tell_declarations(text: &[u8]) {
 }
 
 fn tell(text: &[u8]) {
-    match lexis::scan::whole(text) {
+    match scanning::scan::whole(text) {
         Whole::Sound => tell_declarations(text),
         Whole::Unsound(g) => tell_refused(g),
     }

@@ -14,13 +14,13 @@ use Rattle.ground.specs.Refusals.{at}
 use Rattle.ground.proofs.Bools.{bool-cases, and-true, every-at}
 use Rattle.ground.proofs.Tables.{table-rule}
 use Rattle.kinds.specs.Kinds.{keywords, kindAt, isKind}
-use Rattle.lexis.specs.Bytes.{classFrom, classOf, isLetter, isSpecial}
+use Rattle.signs.specs.Bytes.{classFrom, classOf, isLetter, isSpecial}
 use Rattle.lexis.specs.Tokens.{token, plain, meta, cell}
 use Rattle.lexis.specs.declared.Token.{Token}
-use Rattle.form.specs.Words.{numbered}
-use Rattle.form.specs.Parts.{ref, noRef}
+use Rattle.brackets.specs.Words.{numbered}
+use Rattle.brackets.specs.Parts.{ref, noRef}
 use Rattle.form.specs.Forms.{metaIf, wiringForm, namedForm, cellForm, bodyForm, openForm, formAt}
-use Rattle.form.specs.declared.Ref.{Ref}
+use Rattle.brackets.specs.declared.Ref.{Ref}
 use Rattle.form.specs.declared.Linked.the-variants as linked
 use Rattle.netlist.specs.Rules.{anyKind}
 use Rattle.saying.specs.Values.{refRow}

@@ -15,7 +15,7 @@ use Rattle.ground.proofs.Bools.{bool-cases, never-both, and-true, fact}
 use Rattle.kinds.specs.Kinds.{kindAt}
 use Rattle.lexis.specs.declared.Token.{Token}
 use Rattle.form.specs.Forms.{wiringForm, namedForm}
-use Rattle.form.specs.declared.Str.{Str}
+use Rattle.brackets.specs.declared.Str.{Str}
 use Rattle.form.specs.declared.Decl.{Decl}
 use Rattle.form.specs.declared.Decl.the-variants as decl
 use Rattle.form.specs.declared.Form.the-variants as form

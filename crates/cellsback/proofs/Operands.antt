@@ -12,14 +12,14 @@ use borrow.Author.Tests.{ne-eqb}
 use Rattle.ground.specs.Lists.{every, joined, total}
 use Rattle.ground.specs.Refusals.{at}
 use Rattle.ground.proofs.Bools.{bool-cases, every-first}
-use Rattle.lexis.specs.Bytes.{classFrom, classOf, isSpecial}
+use Rattle.signs.specs.Bytes.{classFrom, classOf, isSpecial}
 use Rattle.lexis.specs.declared.Token.{Token}
-use Rattle.form.specs.Parts.{partOf, partWidth, concatFrom, partsFrom, operandAt, partsAt, noOperand}
+use Rattle.brackets.specs.Parts.{partOf, partWidth, concatFrom, partsFrom, operandAt, partsAt, noOperand}
 use Rattle.form.specs.Forms.{operandIf}
-use Rattle.form.proofs.Measures.{part-took, part-other}
-use Rattle.form.specs.declared.Operand.{Operand}
-use Rattle.form.specs.declared.Measured.the-variants as measured
-use Rattle.form.specs.declared.Taken.the-variants as taken
+use Rattle.brackets.proofs.Measures.{part-took, part-other}
+use Rattle.brackets.specs.declared.Operand.{Operand}
+use Rattle.brackets.specs.declared.Measured.the-variants as measured
+use Rattle.brackets.specs.declared.Taken.the-variants as taken
 use Rattle.netlist.specs.Netlist.{Run, const, piece, runWidth, operandWidth}
 use Rattle.netlist.specs.Runs.{Bit, cut, operandBits}
 use Rattle.netlist.specs.Rules.{runSound}

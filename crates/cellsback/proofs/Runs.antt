@@ -12,7 +12,7 @@ use Rattle.ground.specs.Lists.{every, joined}
 use Rattle.ground.proofs.Bools.{and-true}
 use Rattle.lexis.specs.Tokens.{written, token, constant, cell}
 use Rattle.lexis.specs.declared.Token.{Token}
-use Rattle.form.specs.Parts.{PartAt, isPart, partOf, partWidth}
+use Rattle.brackets.specs.Parts.{PartAt, isPart, partOf, partWidth}
 use Rattle.netlist.specs.Netlist.{Run, const, piece, runWidth}
 use Rattle.netlist.specs.Runs.{Bit, runBits, knownBits}
 use Rattle.netlist.specs.Rules.{isTrit, resolves, runSound}

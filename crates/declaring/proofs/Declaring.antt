@@ -18,7 +18,7 @@ use Rattle.form.specs.declared.Declared.{Declared}
 use Rattle.form.specs.declared.Decl.{Decl}
 use Rattle.form.specs.declared.Decl.the-variants as decl
 use Rattle.form.specs.declared.Wiring.{Wiring}
-use Rattle.form.specs.declared.Str.{Str}
+use Rattle.brackets.specs.declared.Str.{Str}
 use Rattle.ground.specs.declared.Place.{Place}
 use Rattle.noting.specs.Rulings.{ioDeclared}
 use Rattle.metas.specs.MetaRows.{isMetadata}

@@ -7,9 +7,9 @@ use lib.ListN.{length}
 use Rattle.ground.specs.Refusals.{at, refusal}
 use Rattle.ground.specs.declared.Place.{Place}
 use Rattle.ground.specs.declared.Refusal.{Refusal}
-use Rattle.lexis.specs.Whole.{wholeOf}
-use Rattle.lexis.specs.declared.Whole.{Whole}
-use Rattle.lexis.specs.declared.Whole.the-variants as whole
+use Rattle.scanning.specs.Whole.{wholeOf}
+use Rattle.scanning.specs.declared.Whole.{Whole}
+use Rattle.scanning.specs.declared.Whole.the-variants as whole
 use Rattle.form.specs.Forms.{formAt}
 use Rattle.form.specs.declared.Form.the-variants as form
 use Rattle.netlist.specs.Netlist.{Netlist}

@@ -11,7 +11,7 @@ use noting::Tally;
 ghost use mathlib.Core.Path.{_≡_};
 ghost use Prim.Native.Nat.{_≤_};
 ghost use lib.ListN.{length};
-ghost use Rattle.lexis.specs.Bytes.{table};
+ghost use Rattle.signs.specs.Bytes.{table};
 ghost use Rattle.noting.specs.Noted.{NotedSome};
 ghost use Rattle.noting.specs.Formed.{Formed};
 ghost use Rattle.declaring.specs.Going.{noTally, Took, TakesOne, Blank, AllNoted};

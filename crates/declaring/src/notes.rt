@@ -1,7 +1,7 @@
 // One declaration of any kind, noted.
+use brackets::Str;
 use form::Decl;
 use form::Declared;
-use form::Str;
 use form::Wiring;
 use metas::note_meta;
 use noting::Noting;
@@ -11,7 +11,7 @@ use wiring::note_cell;
 ghost use mathlib.Core.Path.{_≡_};
 ghost use Prim.Native.Nat.{_≤_};
 ghost use lib.ListN.{length};
-ghost use Rattle.lexis.specs.Bytes.{table};
+ghost use Rattle.signs.specs.Bytes.{table};
 ghost use Rattle.noting.specs.Noted.{NotedSome};
 ghost use Rattle.noting.specs.Formed.{Formed};
 ghost use Rattle.declaring.specs.Going.{sortOf, NotesOne};

@@ -6,11 +6,11 @@ use mathlib.Core.List.{List, [], _∷_, map}
 use Rattle.ground.specs.Choice.{pick}
 use Rattle.ground.specs.Text.{bytes, same}
 use Rattle.kinds.specs.Kinds.{kindAt}
-use Rattle.lexis.specs.Bytes.{classFrom, classOf}
-use Rattle.lexis.specs.Pieces.{spanEnd, commentEnd, insideEnd, digitsFrom, numeralAt, suffixAt, stringFrom, quotedAt}
+use Rattle.signs.specs.Bytes.{classFrom, classOf}
+use Rattle.signs.specs.Pieces.{spanEnd, commentEnd, insideEnd, digitsFrom, numeralAt, suffixAt, stringFrom, quotedAt}
 use Rattle.lexis.specs.Tokens.{metaOf, numberOf, constantOf, cellOf, ioOf, wordOf, longOf, follows, tokenFrom, tokenAt, insideAt}
-use Rattle.form.specs.Words.{numbered}
-use Rattle.form.specs.Parts.{nextPart, concatFrom, operandAt, nextMember, setFrom}
+use Rattle.brackets.specs.Words.{numbered}
+use Rattle.brackets.specs.Parts.{nextPart, concatFrom, operandAt, nextMember, setFrom}
 use Rattle.form.specs.Forms.{setForm, pointAt, sourceForm, linkAt, optionAt, scopeForm, identForm, attrForm, metaForm, ioForm, operandIf, metaIf, wiringForm, namedForm, cellForm, bodyForm, openForm, formAt, formOf}
 use Rattle.form.specs.declared.Decl.{Decl}
 use Rattle.form.specs.declared.Decl.the-variants as decl

@@ -1,8 +1,3 @@
 pub mod Cases
-pub mod Letters
-pub mod Measures
 pub mod Outcomes
 pub mod Shorts
-pub mod Steps
-pub mod Sums
-pub mod Widths

@@ -12,11 +12,11 @@ use Rattle.lexis.specs.Tokens.{tokenAt, insideAt, lineEnd, textEnd, word, const
 use Rattle.lexis.specs.declared.Token.{Token}
 use Rattle.lexis.specs.declared.Step.{Step}
 use Rattle.lexis.specs.declared.Step.the-variants as step
-use Rattle.form.specs.Words.{isSort, isMark, isSpelled, isWord, kindOf}
-use Rattle.form.specs.Parts.{str, ref, noRef, noOperand, operandAt, setAt}
-use Rattle.form.specs.declared.Str.{Str}
-use Rattle.form.specs.declared.Ref.{Ref}
-use Rattle.form.specs.declared.Operand.{Operand}
+use Rattle.brackets.specs.Words.{isSort, isMark, isSpelled, isWord, kindOf}
+use Rattle.brackets.specs.Parts.{str, ref, noRef, noOperand, operandAt, setAt}
+use Rattle.brackets.specs.declared.Str.{Str}
+use Rattle.brackets.specs.declared.Ref.{Ref}
+use Rattle.brackets.specs.declared.Operand.{Operand}
 use Rattle.form.specs.declared.Point.{Point}
 use Rattle.form.specs.declared.Label.{Label}
 use Rattle.form.specs.declared.Label.the-variants.{Named, Indexed}
@@ -27,10 +27,10 @@ use Rattle.form.specs.declared.Decl.the-variants as decl
 use Rattle.form.specs.declared.Declared.{Declared}
 use Rattle.form.specs.declared.Form.{Form}
 use Rattle.form.specs.declared.Form.the-variants as form
-use Rattle.form.specs.declared.Measured.{Measured}
-use Rattle.form.specs.declared.Measured.the-variants as measured
-use Rattle.form.specs.declared.Taken.{Taken}
-use Rattle.form.specs.declared.Taken.the-variants as taken
+use Rattle.brackets.specs.declared.Measured.{Measured}
+use Rattle.brackets.specs.declared.Measured.the-variants as measured
+use Rattle.brackets.specs.declared.Taken.{Taken}
+use Rattle.brackets.specs.declared.Taken.the-variants as taken
 use Rattle.form.specs.declared.Pointed.{Pointed}
 use Rattle.form.specs.declared.Pointed.the-variants as pointed
 use Rattle.form.specs.declared.Linked.{Linked}

@@ -1,4 +1,1 @@
-pub mod Words
-pub mod Parts
 pub mod Forms
-pub mod Walks

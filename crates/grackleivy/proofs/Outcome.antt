@@ -3,7 +3,7 @@ use mathlib.Core.Path.{_≡_}
 use mathlib.Core.List.{List}
 use Prim.Native.Nat.{ℕ}
 use Rattle.ground.proofs.Outcome.{any-two}
-use Rattle.lexis.specs.Whole.{wholeOf}
+use Rattle.scanning.specs.Whole.{wholeOf}
 use Rattle.netlist.specs.Good.{checkOf, lookupOf}
 use Rattle.reading.specs.Outcome.{readOf}
 use Rattle.printing.specs.Outcome.{printOf}

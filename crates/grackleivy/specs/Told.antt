@@ -6,10 +6,10 @@ use lib.Dec.{eqb}
 use lib.ListN.{length}
 use Rattle.ground.specs.Choice.{pick}
 use Rattle.ground.specs.declared.Refusal.{Refusal}
-use Rattle.lexis.specs.Whole.{wholeOf}
+use Rattle.scanning.specs.Whole.{wholeOf}
 use Rattle.lexis.specs.Tokens.{tokenAt, textEnd}
-use Rattle.lexis.specs.declared.Whole.{Whole}
-use Rattle.lexis.specs.declared.Whole.the-variants as whole
+use Rattle.scanning.specs.declared.Whole.{Whole}
+use Rattle.scanning.specs.declared.Whole.the-variants as whole
 use Rattle.lexis.specs.declared.Step.{Step}
 use Rattle.lexis.specs.declared.Step.the-variants as step
 use Rattle.grackleivy.specs.declared.Told.{Told}

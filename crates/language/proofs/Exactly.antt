@@ -7,9 +7,9 @@ use native.Mathlib.Omega.{arith}
 use lib.ListN.{length}
 use Rattle.ground.specs.declared.Place.{Place}
 use Rattle.ground.specs.declared.Refusal.{Refusal}
-use Rattle.lexis.specs.Whole.{wholeOf}
-use Rattle.lexis.specs.declared.Whole.{Whole}
-use Rattle.lexis.specs.declared.Whole.the-variants as whole
+use Rattle.scanning.specs.Whole.{wholeOf}
+use Rattle.scanning.specs.declared.Whole.{Whole}
+use Rattle.scanning.specs.declared.Whole.the-variants as whole
 use Rattle.netlist.specs.Netlist.{Netlist}
 use Rattle.netlist.specs.Rules.{widthsOf}
 use Rattle.saying.specs.Pieces.{firstUnresolved}

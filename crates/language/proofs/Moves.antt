@@ -9,17 +9,17 @@ use lib.ListN.{drop, getD}
 use Rattle.ground.specs.Choice.{pick}
 use Rattle.ground.proofs.Bools.{bool-cases, never-both}
 use Rattle.kinds.proofs.Widths.{picked}
-use Rattle.lexis.specs.Bytes.{classOf, within, isWhite, isConstant, isLetter, isFeed, isSpecial, isDigit, isHex, isRaw, hexOf}
-use Rattle.lexis.specs.Pieces.{spanEnd, commentEnd, insideEnd, digitsFrom, numeralAt, suffixAt, Str, whole, broken, prefixed, stringFrom, sized, stringAt, quotedAt}
+use Rattle.signs.specs.Bytes.{classOf, within, isWhite, isConstant, isLetter, isFeed, isSpecial, isDigit, isHex, isRaw, hexOf}
+use Rattle.signs.specs.Pieces.{spanEnd, commentEnd, insideEnd, digitsFrom, numeralAt, suffixAt, Str, whole, broken, prefixed, stringFrom, sized, stringAt, quotedAt}
 use Rattle.lexis.specs.Tokens.{refused, judged, single, signedOf, opensPlaceholder, follows, constantOf, cellOf, namedFrom, ioOf, stringStep, numberOf, metaOf, wordOf, longOf, tokenFrom, tokenAt, insideAt, lineEnd, number, meta, placeholder}
 use Rattle.lexis.specs.declared.Token.{Token}
 use Rattle.lexis.specs.declared.Step.{Step}
 use Rattle.lexis.specs.declared.Step.the-variants as step
-use Rattle.lexis.specs.declared.pieces.Numeral.{Numeral}
-use Rattle.lexis.specs.declared.pieces.Suffix.{Suffix}
-use Rattle.lexis.specs.declared.pieces.Quoted.{Quoted}
-use Rattle.lexis.specs.declared.pieces.Quoted.the-variants.{Closed, Malformed}
-use Rattle.form.specs.Words.{isSort}
+use Rattle.signs.specs.declared.pieces.Numeral.{Numeral}
+use Rattle.signs.specs.declared.pieces.Suffix.{Suffix}
+use Rattle.signs.specs.declared.pieces.Quoted.{Quoted}
+use Rattle.signs.specs.declared.pieces.Quoted.the-variants.{Closed, Malformed}
+use Rattle.brackets.specs.Words.{isSort}
 use Rattle.saying.proofs.Tokens.{Nothing}
 
 -- THE PIECES end where they begin or behind

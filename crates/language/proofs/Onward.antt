@@ -10,14 +10,14 @@ use Rattle.lexis.specs.Tokens.{tokenAt, insideAt, number, meta}
 use Rattle.lexis.specs.declared.Token.{Token}
 use Rattle.lexis.specs.declared.Step.{Step}
 use Rattle.lexis.specs.declared.Step.the-variants as step
-use Rattle.form.specs.Words.{isSort, isMark, isSpelled}
-use Rattle.form.specs.Parts.{isPart, partOf, partWidth, nextPart, concatFrom, concatAt, closedOperand, operandFrom, operandAt, nextMember, setFrom}
+use Rattle.brackets.specs.Words.{isSort, isMark, isSpelled}
+use Rattle.brackets.specs.Parts.{isPart, partOf, partWidth, nextPart, concatFrom, concatAt, closedOperand, operandFrom, operandAt, nextMember, setFrom}
 use Rattle.form.specs.Forms.{only, markAt, toPoint, closedPoint, pointAt, linkOf, linkFrom, linkAt, optionFrom, optionAt, operandIf, metaFrom, metaIf}
 use Rattle.form.specs.declared.Point.{Point}
-use Rattle.form.specs.declared.Measured.{Measured}
-use Rattle.form.specs.declared.Measured.the-variants as measured
-use Rattle.form.specs.declared.Taken.{Taken}
-use Rattle.form.specs.declared.Taken.the-variants as taken
+use Rattle.brackets.specs.declared.Measured.{Measured}
+use Rattle.brackets.specs.declared.Measured.the-variants as measured
+use Rattle.brackets.specs.declared.Taken.{Taken}
+use Rattle.brackets.specs.declared.Taken.the-variants as taken
 use Rattle.form.specs.declared.Pointed.{Pointed}
 use Rattle.form.specs.declared.Pointed.the-variants as pointed
 use Rattle.form.specs.declared.Linked.{Linked}

@@ -7,9 +7,9 @@ use mathlib.Core.List.{List, [], _∷_}
 use lib.Dec.{eqb}
 use Rattle.ground.specs.Lists.{every}
 use Rattle.kinds.specs.Kinds.{inputKind, outputKind}
-use Rattle.lexis.specs.Whole.{wholeOf}
+use Rattle.scanning.specs.Whole.{wholeOf}
 use Rattle.lexis.specs.declared.Reader.{Reader}
-use Rattle.lexis.specs.declared.Whole.the-variants as whole
+use Rattle.scanning.specs.declared.Whole.the-variants as whole
 use Rattle.form.specs.Forms.{formAt}
 use Rattle.form.specs.declared.Declared.{Declared}
 use Rattle.form.specs.declared.Form.the-variants as form

@@ -13,7 +13,7 @@ use Rattle.ground.specs.Regions.{part}
 use Rattle.ground.proofs.Bools.{bool-cases, never-both}
 use Rattle.ground.proofs.Regions.{part-length}
 use Rattle.ground.proofs.Writes.{sets-more}
-use Rattle.lexis.specs.Bytes.{tritOf}
+use Rattle.signs.specs.Bytes.{tritOf}
 use Rattle.laying.specs.Growing.{lastIs, lastIsFrom}
 
 map-at : (f : ℕ → ℕ) (xs : List ℕ) (i : ℕ) → i < length xs → getD (map f xs) i 0 ≡ f (getD xs i 0)

@@ -6,9 +6,9 @@ use mathlib.Core.List.{List, _++_, append-assoc}
 use Prim.Native.Nat.{ℕ, _+_, _<_, _≤_}
 use native.Mathlib.Omega.{arith}
 use lib.ListN.{length, length-append}
-use Rattle.form.specs.Parts.{partsAt}
-use Rattle.form.specs.declared.Operand.{Operand}
-use Rattle.form.proofs.Sums.{widths}
+use Rattle.brackets.specs.Parts.{partsAt}
+use Rattle.brackets.specs.declared.Operand.{Operand}
+use Rattle.brackets.proofs.Sums.{widths}
 use Rattle.netlist.specs.Netlist.{Run, runBitsOf}
 use Rattle.netlist.proofs.Lengths.{runBits-append}
 use Rattle.saying.specs.Values.{operandRuns}

@@ -13,13 +13,13 @@ use Rattle.ground.specs.Choice.{pick}
 use Rattle.ground.specs.Lists.{every, joined}
 use Rattle.ground.specs.declared.Place.{Place}
 use Rattle.ground.proofs.Bools.{bool-cases, never-both, and-true, or-false, every-first, every-more}
-use Rattle.form.specs.Parts.{PartAt, partsAt, baseWidth, partWidth}
-use Rattle.form.specs.declared.Piece.{Piece}
-use Rattle.form.specs.declared.Base.{Base}
-use Rattle.form.specs.declared.Base.the-variants as base
-use Rattle.form.specs.declared.Part.{Part}
-use Rattle.form.specs.declared.Part.the-variants as part
-use Rattle.form.specs.declared.Operand.{Operand}
+use Rattle.brackets.specs.Parts.{PartAt, partsAt, baseWidth, partWidth}
+use Rattle.brackets.specs.declared.Piece.{Piece}
+use Rattle.brackets.specs.declared.Base.{Base}
+use Rattle.brackets.specs.declared.Base.the-variants as base
+use Rattle.brackets.specs.declared.Part.{Part}
+use Rattle.brackets.specs.declared.Part.the-variants as part
+use Rattle.brackets.specs.declared.Operand.{Operand}
 use Rattle.netlist.specs.Netlist.{Run, const, piece}
 use Rattle.netlist.specs.Runs.{Bit, known, bit, falling, knownBits, runsWith, cut}
 use Rattle.netlist.specs.Rules.{resolves}

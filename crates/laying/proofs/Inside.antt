@@ -14,12 +14,12 @@ use Rattle.lexis.specs.declared.Reader.{Reader}
 use Rattle.lexis.specs.declared.Token.{Token}
 use Rattle.lexis.specs.declared.Step.{Step}
 use Rattle.lexis.specs.declared.Step.the-variants as step
-use Rattle.form.specs.Words.{isSort}
-use Rattle.form.specs.Parts.{isPart, baseOf, partOf, partedOf, nextPart, partsFrom, partsOf, partsAt}
-use Rattle.form.specs.declared.Operand.{Operand}
-use Rattle.form.specs.declared.Part.{Part}
-use Rattle.form.specs.declared.Parted.{Parted}
-use Rattle.form.specs.declared.Parted.the-variants as parted
+use Rattle.brackets.specs.Words.{isSort}
+use Rattle.brackets.specs.Parts.{isPart, baseOf, partOf, partedOf, nextPart, partsFrom, partsOf, partsAt}
+use Rattle.brackets.specs.declared.Operand.{Operand}
+use Rattle.brackets.specs.declared.Part.{Part}
+use Rattle.brackets.specs.declared.Parted.{Parted}
+use Rattle.brackets.specs.declared.Parted.the-variants as parted
 use Rattle.saying.proofs.Tokens.{SoundToken, SoundStep, token-sound, inside-sound}
 use Rattle.laying.specs.Growing.{BaseIn, PartIn, PartsIn, none, more}
 

@@ -9,7 +9,7 @@ use lib.ListN.{length}
 use lib.Seq.{sets}
 use Rattle.ground.specs.Regions.{part}
 use Rattle.ground.proofs.Outcome.{any-two}
-use Rattle.lexis.specs.Bytes.{tritOf}
+use Rattle.signs.specs.Bytes.{tritOf}
 use Rattle.netlist.specs.Netlist.{Run}
 use Rattle.laying.specs.Holding.{Holds, After, CellAfter}
 use Rattle.laying.specs.Bare.{TellsBare, CellTellsBare}

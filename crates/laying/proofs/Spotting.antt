@@ -12,11 +12,11 @@ use Rattle.lexis.specs.Tokens.{insideAt, constant, cell, took, spotAt}
 use Rattle.lexis.specs.declared.Spot.{Spot}
 use Rattle.lexis.specs.declared.Token.{Token}
 use Rattle.lexis.proofs.Spots.{Spotted, spot-found, spot-closed}
-use Rattle.form.specs.Words.{isSort}
-use Rattle.form.specs.Parts.{PartAt, isPart, partOf, partsFrom}
-use Rattle.form.specs.declared.Base.the-variants as base
-use Rattle.form.specs.declared.Part.{Part}
-use Rattle.form.specs.declared.Part.the-variants as part
+use Rattle.brackets.specs.Words.{isSort}
+use Rattle.brackets.specs.Parts.{PartAt, isPart, partOf, partsFrom}
+use Rattle.brackets.specs.declared.Base.the-variants as base
+use Rattle.brackets.specs.declared.Part.{Part}
+use Rattle.brackets.specs.declared.Part.the-variants as part
 use Rattle.netlist.specs.Runs.{falling}
 use Rattle.laying.specs.Growing.{OpenedRows, Grows}
 use Rattle.laying.specs.Bare.{PartsFit, PartsLaid}

@@ -7,12 +7,12 @@ use native.Mathlib.Omega.{arith}
 use native.Mathlib.Nat.{suc-mul}
 use lib.ListN.{length, length-append}
 use Rattle.ground.specs.Lists.{joined, total}
-use Rattle.form.specs.Parts.{PartAt, baseWidth, partWidth}
-use Rattle.form.specs.declared.Base.{Base}
-use Rattle.form.specs.declared.Base.the-variants as base
-use Rattle.form.specs.declared.Part.{Part}
-use Rattle.form.specs.declared.Part.the-variants as part
-use Rattle.form.proofs.Sums.{widths}
+use Rattle.brackets.specs.Parts.{PartAt, baseWidth, partWidth}
+use Rattle.brackets.specs.declared.Base.{Base}
+use Rattle.brackets.specs.declared.Base.the-variants as base
+use Rattle.brackets.specs.declared.Part.{Part}
+use Rattle.brackets.specs.declared.Part.the-variants as part
+use Rattle.brackets.proofs.Sums.{widths}
 use Rattle.netlist.specs.Netlist.{Run}
 use Rattle.netlist.specs.Runs.{Bit, cut}
 use Rattle.saying.specs.Values.{tritsIn, baseBits, copies, partBits}

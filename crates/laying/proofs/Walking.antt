@@ -16,10 +16,10 @@ use Rattle.lexis.specs.Tokens.{tokenAt, insideAt}
 use Rattle.lexis.specs.declared.Reader.{Reader}
 use Rattle.lexis.specs.declared.Token.{Token}
 use Rattle.lexis.specs.declared.Step.the-variants as step
-use Rattle.form.specs.Parts.{PartAt, isPart, partOf, partWidth, partedOf, nextPart, partsFrom, partsAt}
-use Rattle.form.specs.declared.Operand.{Operand}
-use Rattle.form.specs.declared.Parted.the-variants as parted
-use Rattle.form.proofs.Sums.{widths}
+use Rattle.brackets.specs.Parts.{PartAt, isPart, partOf, partWidth, partedOf, nextPart, partsFrom, partsAt}
+use Rattle.brackets.specs.declared.Operand.{Operand}
+use Rattle.brackets.specs.declared.Parted.the-variants as parted
+use Rattle.brackets.proofs.Sums.{widths}
 use Rattle.netlist.specs.Netlist.{Run}
 use Rattle.netlist.specs.Runs.{cut}
 use Rattle.saying.specs.Values.{partBits, operandRuns}

@@ -8,9 +8,9 @@ use mathlib.Core.Option.{none}
 use lib.Dec.{leb, eqb}
 use Rattle.ground.specs.Lists.{every, joined}
 use Rattle.lexis.specs.declared.Token.{Token}
-use Rattle.form.specs.Parts.{PartAt, partOf, partWidth, partsAt}
+use Rattle.brackets.specs.Parts.{PartAt, partOf, partWidth, partsAt}
 use Rattle.form.specs.declared.Wiring.{Wiring}
-use Rattle.form.proofs.Sums.{widths}
+use Rattle.brackets.proofs.Sums.{widths}
 use Rattle.netlist.specs.Netlist.{Run, const, piece}
 use Rattle.netlist.specs.Rules.{resolves}
 use Rattle.netlist.specs.Runs.{cut}

@@ -7,11 +7,11 @@ use lib.Dec.{ltb, eqb}
 use lib.ListN.{length, getD}
 use lib.Seq.{sets}
 use Rattle.ground.specs.Choice.{pick}
-use Rattle.form.specs.Parts.{PartAt}
-use Rattle.form.specs.declared.Base.{Base}
-use Rattle.form.specs.declared.Base.the-variants as base
-use Rattle.form.specs.declared.Part.{Part}
-use Rattle.form.specs.declared.Part.the-variants as part
+use Rattle.brackets.specs.Parts.{PartAt}
+use Rattle.brackets.specs.declared.Base.{Base}
+use Rattle.brackets.specs.declared.Base.the-variants as base
+use Rattle.brackets.specs.declared.Part.{Part}
+use Rattle.brackets.specs.declared.Part.the-variants as part
 use Rattle.netlist.specs.Netlist.{Run, runBitsOf}
 use Rattle.netlist.specs.Runs.{Bit, cut}
 use Rattle.laying.specs.Holding.{Holds}

@@ -4,9 +4,9 @@ use mathlib.Core.List.{List, _++_}
 use Prim.Native.Nat.{ℕ, _+_, _≤_, _<_}
 use lib.ListN.{length}
 use Rattle.ground.specs.Regions.{pad}
-use Rattle.form.specs.Parts.{partsAt}
+use Rattle.brackets.specs.Parts.{partsAt}
 use Rattle.form.specs.declared.Wiring.{Wiring}
-use Rattle.form.proofs.Sums.{widths}
+use Rattle.brackets.proofs.Sums.{widths}
 use Rattle.netlist.specs.Netlist.{Run, runBitsOf}
 use Rattle.netlist.specs.Tables.{runRows}
 use Rattle.laying.specs.declared.Laid.{Laid}

@@ -1,7 +1,7 @@
 // One run in the run rows: a row of three words, behind the others or in the place of the last.
 use crate::Laid;
 use crate::Laying;
-use form::Piece;
+use brackets::Piece;
 ghost use mathlib.Core.Path.{_≡_};
 ghost use mathlib.Core.List.{List, [], _∷_};
 ghost use Prim.Native.Nat.{ℕ, _+_, _≤_};

@@ -1,12 +1,12 @@
 // The trits of a constant, copied into the run trits.
-use lexis::classes::class_at;
+use signs::classes::class_at;
 ghost use mathlib.Core.Path.{_≡_};
 ghost use mathlib.Core.List.{map};
 ghost use Prim.Native.Nat.{_+_, _≤_};
 ghost use lib.ListN.{length};
 ghost use lib.Seq.{sets};
 ghost use Rattle.ground.specs.Regions.{part};
-ghost use Rattle.lexis.specs.Bytes.{table, tritOf};
+ghost use Rattle.signs.specs.Bytes.{table, tritOf};
 
 // 0, 1, and 2 for X.
 fn trit_of(t: &[u8; 256], b: u8) -> u8

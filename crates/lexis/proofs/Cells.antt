@@ -6,10 +6,10 @@ use Prim.Native.Nat.{ℕ, _+_}
 use lib.Dec.{eqb}
 use Rattle.ground.specs.Choice.{pick}
 use Rattle.ground.proofs.Bools.{never-both, or-false}
-use Rattle.lexis.specs.Bytes.{classFrom, classOf}
+use Rattle.signs.specs.Bytes.{classFrom, classOf}
 use Rattle.lexis.specs.Tokens.{cellTook, cellFrom, placeholderFrom, opensPlaceholder, cellOf, longOf}
-use Rattle.lexis.specs.declared.pieces.Numeral.{Numeral}
-use Rattle.lexis.specs.declared.pieces.Suffix.{Suffix}
+use Rattle.signs.specs.declared.pieces.Numeral.{Numeral}
+use Rattle.signs.specs.declared.pieces.Suffix.{Suffix}
 
 pub not-true : (a : Bool) → not a ≡ true → a ≡ false
 not-true true e = never-both e refl

@@ -9,13 +9,13 @@ use lib.ListN.{drop, getD}
 use borrow.Author.Tests.{eqb-true, eqb-false}
 use Rattle.ground.specs.Choice.{pick}
 use Rattle.ground.proofs.Bools.{bool-cases, never-both, and-true}
-use Rattle.lexis.specs.Bytes.{classOf, classFrom, isWhite, isSpecial, isFeed}
-use Rattle.lexis.specs.Pieces.{spanEnd, insideEnd, numeralAt, partLimit}
+use Rattle.signs.specs.Bytes.{classOf, classFrom, isWhite, isSpecial, isFeed}
+use Rattle.signs.specs.Pieces.{spanEnd, insideEnd, numeralAt, partLimit}
 use Rattle.lexis.specs.Tokens.{meta, mark, lineEnd, took, plain, judged, metaOf, longOf, follows, standingAt, tokenAt, insideAt, noLink, linkOf, linkAt, byteEnd}
 use Rattle.lexis.specs.declared.Link.{Link}
 use Rattle.lexis.specs.declared.Step.{Step}
 use Rattle.lexis.proofs.Cells.{not-true}
-use Rattle.lexis.proofs.Laws.{in-text}
+use Rattle.signs.proofs.Laws.{in-text}
 use Rattle.lexis.proofs.Standing.{standing-at}
 
 -- the step of a reference that is found

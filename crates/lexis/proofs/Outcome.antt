@@ -3,7 +3,7 @@ use mathlib.Core.Path.{_≡_}
 use mathlib.Core.List.{List}
 use Prim.Native.Nat.{ℕ}
 use Rattle.ground.proofs.Outcome.{any-two}
-use Rattle.lexis.specs.Bytes.{classOf, table}
+use Rattle.signs.specs.Bytes.{classOf, table}
 use Rattle.lexis.specs.Tokens.{tokenAt, insideAt, linkAt, byteEnd}
 use Rattle.lexis.specs.declared.Link.{Link}
 use Rattle.lexis.specs.declared.Step.{Step}

@@ -10,17 +10,17 @@ use borrow.Author.Tests.{eq-eqb, ne-eqb, eqb-true}
 use Rattle.ground.specs.Choice.{pick}
 use Rattle.ground.specs.Refusals.{at}
 use Rattle.ground.proofs.Bools.{bool-cases, never-both, and-true, or-false}
-use Rattle.lexis.specs.Bytes.{classOf, classFrom, isDigit}
-use Rattle.lexis.specs.Pieces.{insideEnd, numeralAt, partLimit, noSuffix, begunSuffix, suffixAt}
+use Rattle.signs.specs.Bytes.{classOf, classFrom, isDigit}
+use Rattle.signs.specs.Pieces.{insideEnd, numeralAt, partLimit, noSuffix, begunSuffix, suffixAt}
 use Rattle.lexis.specs.Tokens.{cell, mark, written, token, took, plain, judged, cellTook, cellFrom, placeholderFrom, opensPlaceholder, cellOf, longOf, follows, standingAt, insideAt, partOr, spot, noSpot, spotOf, spotAt}
-use Rattle.lexis.specs.declared.pieces.Numeral.{Numeral}
-use Rattle.lexis.specs.declared.pieces.Suffix.{Suffix}
+use Rattle.signs.specs.declared.pieces.Numeral.{Numeral}
+use Rattle.signs.specs.declared.pieces.Suffix.{Suffix}
 use Rattle.lexis.specs.declared.Spot.{Spot}
 use Rattle.lexis.specs.declared.Token.{Token}
 use Rattle.lexis.specs.declared.Step.{Step}
 use Rattle.lexis.specs.declared.Step.the-variants.{Took, Refused}
 use Rattle.lexis.proofs.Cells.{not-true}
-use Rattle.lexis.proofs.Laws.{in-text, numeral-stop}
+use Rattle.signs.proofs.Laws.{in-text, numeral-stop}
 use Rattle.lexis.proofs.Standing.{standing-at}
 
 -- WHAT HAS NO NUMBERS: a refusal, a placeholder, a repetition

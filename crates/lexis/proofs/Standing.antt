@@ -8,8 +8,8 @@ use lib.Dec.{eqb}
 use lib.ListN.{length, drop, getD}
 use Rattle.ground.specs.Choice.{pick}
 use Rattle.ground.proofs.Rest.{rest-cons, rest-end}
-use Rattle.lexis.specs.Bytes.{classOf, within, isFeed, isSpecial}
-use Rattle.lexis.specs.Pieces.{commentEnd}
+use Rattle.signs.specs.Bytes.{classOf, within, isFeed, isSpecial}
+use Rattle.signs.specs.Pieces.{commentEnd}
 use Rattle.lexis.specs.Tokens.{lineEnd, textEnd, mark, took, plain, refused, follows, longOf, tokenFrom, standingAt}
 
 module _ (s : List ℕ) (k : ℕ) where

@@ -1,7 +1,1 @@
-pub mod Bytes
-pub mod Whole
-pub mod Pieces
-pub mod Plain
 pub mod Tokens
-pub mod Modes
-pub mod Decoding

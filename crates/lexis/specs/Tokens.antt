@@ -5,13 +5,13 @@ use mathlib.Core.List.{List, [], _∷_}
 use lib.Dec.{ltb, eqb}
 use lib.ListN.{drop, getD}
 use Rattle.ground.specs.Choice.{pick}
-use Rattle.lexis.specs.Bytes.{classOf, isWhite, isFeed, isConstant, isLetter, isSpecial, within}
+use Rattle.signs.specs.Bytes.{classOf, isWhite, isFeed, isConstant, isLetter, isSpecial, within}
 use Rattle.ground.specs.Refusals.{at, refusal}
-use Rattle.lexis.specs.Pieces.{spanEnd, commentEnd, insideEnd, numeralAt, partLimit, suffixAt, quotedAt}
-use Rattle.lexis.specs.declared.pieces.Numeral.{Numeral}
-use Rattle.lexis.specs.declared.pieces.Suffix.{Suffix}
-use Rattle.lexis.specs.declared.pieces.Quoted.{Quoted}
-use Rattle.lexis.specs.declared.pieces.Quoted.the-variants.{Closed, Malformed}
+use Rattle.signs.specs.Pieces.{spanEnd, commentEnd, insideEnd, numeralAt, partLimit, suffixAt, quotedAt}
+use Rattle.signs.specs.declared.pieces.Numeral.{Numeral}
+use Rattle.signs.specs.declared.pieces.Suffix.{Suffix}
+use Rattle.signs.specs.declared.pieces.Quoted.{Quoted}
+use Rattle.signs.specs.declared.pieces.Quoted.the-variants.{Closed, Malformed}
 use Rattle.lexis.specs.declared.Token.{Token}
 use Rattle.lexis.specs.declared.Spot.{Spot}
 use Rattle.lexis.specs.declared.Link.{Link}

@@ -1,9 +1,5 @@
-// Lexis: from bytes to tokens. It promises that each token, each refusal 2 to 6 with its place, and the bytes that a
-// string means are those that the definitions of specs/ give. The form of declarations stands above it, the ground below.
-pub mod classes;
-pub mod decode;
-pub mod pieces;
-pub mod scan;
+// Lexis: from bytes to tokens. It promises that each token and each refusal 5 and 6 with its place are those that the definitions of
+// specs/ give. The form of declarations stands above it, the signs that tokens are made of below.
 mod tokens;
 
 use ground::Place;
@@ -49,10 +45,4 @@ pub struct Link {
     pub index: u32,
     pub at: usize,
     pub end: usize,
-}
-
-// The text as a whole: sound, or a refusal 2, 3 or 4 with its place.
-pub enum Whole {
-    Sound,
-    Unsound(Refusal),
 }

@@ -11,7 +11,7 @@ use borrow.Author.Tests.{ltb-true, leb-true}
 use Rattle.ground.specs.Lists.{every}
 use Rattle.ground.specs.Text.{bytes, same}
 use Rattle.ground.proofs.Bools.{fact, and-true, or-right}
-use Rattle.lexis.specs.Bytes.{classOf, classFrom}
+use Rattle.signs.specs.Bytes.{classOf, classFrom}
 use Rattle.lexis.specs.declared.Token.{Token}
 use Rattle.form.specs.Forms.{setForm, sourceForm, scopeForm, identForm, attrForm, isLabel, labelOf, isPayload, payloadOf}
 use Rattle.form.specs.declared.Decl.{Decl}

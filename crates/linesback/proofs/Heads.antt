@@ -8,7 +8,7 @@ use Rattle.ground.specs.Lists.{every}
 use Rattle.ground.specs.Refusals.{at}
 use Rattle.ground.specs.Text.{bytes}
 use Rattle.ground.proofs.Rest.{rest-rest}
-use Rattle.lexis.specs.Bytes.{classOf, classFrom, isLetter}
+use Rattle.signs.specs.Bytes.{classOf, classFrom, isLetter}
 use Rattle.lexis.specs.Tokens.{tokenAt, took, plain, mark, word, meta}
 use Rattle.lexis.specs.declared.Token.{Token}
 use Rattle.form.specs.Forms.{ended, setForm, metaForm, bodyForm, openForm, formAt}

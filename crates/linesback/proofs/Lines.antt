@@ -11,11 +11,11 @@ use borrow.Author.Tests.{eqb-true, eqb-false, leb-true}
 use Rattle.ground.specs.Lists.{every}
 use Rattle.ground.specs.Text.{bytes, same}
 use Rattle.ground.proofs.Bools.{bool-cases, fact, and-true}
-use Rattle.lexis.specs.Bytes.{classOf, classFrom}
-use Rattle.lexis.specs.Pieces.{decoded}
+use Rattle.signs.specs.Bytes.{classOf, classFrom}
+use Rattle.signs.specs.Pieces.{decoded}
 use Rattle.lexis.specs.Tokens.{plain, token, meta, io}
 use Rattle.lexis.specs.declared.Token.{Token}
-use Rattle.form.specs.Parts.{str}
+use Rattle.brackets.specs.Parts.{str}
 use Rattle.form.specs.Forms.{ended, sourceForm, scopeForm, identForm, attrForm, metaForm, ioForm, bodyForm, openForm, formAt}
 use Rattle.form.specs.declared.Decl.{Decl}
 use Rattle.form.specs.declared.Decl.the-variants as decl

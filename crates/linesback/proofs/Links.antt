@@ -11,13 +11,13 @@ use Rattle.ground.specs.Lists.{every}
 use Rattle.ground.specs.Refusals.{at}
 use Rattle.ground.specs.Text.{bytes, same}
 use Rattle.ground.proofs.Bools.{bool-cases, and-true}
-use Rattle.lexis.specs.Bytes.{classOf, classFrom, isLetter}
+use Rattle.signs.specs.Bytes.{classOf, classFrom, isLetter}
 use Rattle.lexis.specs.Tokens.{tokenAt, took, plain, lineEnd, word, meta}
 use Rattle.lexis.specs.declared.Token.{Token}
-use Rattle.form.specs.Words.{isSpelled}
-use Rattle.form.specs.Parts.{ref, noRef}
+use Rattle.brackets.specs.Words.{isSpelled}
+use Rattle.brackets.specs.Parts.{ref, noRef}
 use Rattle.form.specs.Forms.{linkAt, optionAt}
-use Rattle.form.specs.declared.Ref.{Ref}
+use Rattle.brackets.specs.declared.Ref.{Ref}
 use Rattle.form.specs.declared.Linked.the-variants as linked
 use Rattle.netlist.specs.Rules.{refers, mayRefer}
 use Rattle.saying.specs.Values.{refRow, rowOf}

@@ -10,12 +10,12 @@ use lib.ListN.{drop, length, length-append, length-drop}
 use Rattle.ground.specs.Lists.{every}
 use Rattle.ground.specs.Refusals.{at}
 use Rattle.ground.proofs.Bools.{every-first, or-right}
-use Rattle.lexis.specs.Bytes.{classOf, classFrom}
+use Rattle.signs.specs.Bytes.{classOf, classFrom}
 use Rattle.lexis.specs.Tokens.{insideAt, took, plain, mark, meta}
-use Rattle.form.specs.Parts.{ref, nextMember, setFrom, membersFrom}
-use Rattle.form.specs.declared.Ref.{Ref}
-use Rattle.form.specs.declared.Measured.{Measured}
-use Rattle.form.specs.declared.Measured.the-variants as measured
+use Rattle.brackets.specs.Parts.{ref, nextMember, setFrom, membersFrom}
+use Rattle.brackets.specs.declared.Ref.{Ref}
+use Rattle.brackets.specs.declared.Measured.{Measured}
+use Rattle.brackets.specs.declared.Measured.the-variants as measured
 use Rattle.netlist.specs.Rules.{refers, mayRefer, isMember}
 use Rattle.saying.specs.Values.{refRow}
 use Rattle.saying.specs.Rules.{Sofar, firstMisnamed}

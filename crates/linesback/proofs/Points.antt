@@ -6,8 +6,8 @@ use mathlib.Core.List.{List, _∷_}
 use lib.ListN.{drop, length}
 use Rattle.ground.specs.Lists.{every}
 use Rattle.ground.specs.Refusals.{at}
-use Rattle.lexis.specs.Bytes.{classOf, classFrom}
-use Rattle.lexis.specs.Pieces.{decoded}
+use Rattle.signs.specs.Bytes.{classOf, classFrom}
+use Rattle.signs.specs.Pieces.{decoded}
 use Rattle.lexis.specs.Tokens.{plain, string, number}
 use Rattle.form.specs.Forms.{pointAt}
 use Rattle.form.specs.declared.Pointed.the-variants as pointed

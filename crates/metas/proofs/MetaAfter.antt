@@ -16,8 +16,8 @@ use Rattle.ground.proofs.Bools.{bool-cases, never-both, and-true}
 use Rattle.ground.proofs.Regions.{part-length}
 use Rattle.ground.specs.declared.Place.{Place}
 use Rattle.ground.specs.declared.Refusal.{Refusal}
-use Rattle.form.specs.Parts.{membersAt}
-use Rattle.form.specs.declared.Ref.{Ref}
+use Rattle.brackets.specs.Parts.{membersAt}
+use Rattle.brackets.specs.declared.Ref.{Ref}
 use Rattle.form.specs.declared.Label.the-variants as label
 use Rattle.form.specs.declared.Payload.the-variants as payload
 use Rattle.form.specs.declared.Decl.{Decl}

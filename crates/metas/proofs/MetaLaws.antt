@@ -17,16 +17,16 @@ use Rattle.ground.proofs.Bools.{bool-cases, every-first}
 use Rattle.ground.proofs.Regions.{part-length}
 use Rattle.ground.proofs.Writes.{sets-append}
 use Rattle.ground.specs.declared.Place.{Place}
-use Rattle.lexis.specs.Bytes.{tritOf}
-use Rattle.lexis.specs.Pieces.{decoded}
-use Rattle.form.specs.Parts.{membersAt, membersFrom}
-use Rattle.form.specs.Walks.{tourAt, tourStep, membersLeft, membersOn}
-use Rattle.form.proofs.Steps.{tour-starts, tour-goes}
-use Rattle.form.specs.declared.Str.{Str}
-use Rattle.form.specs.declared.Ref.{Ref}
-use Rattle.form.specs.declared.Tour.{Tour}
-use Rattle.form.specs.declared.Toured.the-variants as toured
-use Rattle.form.specs.declared.Members.{Members}
+use Rattle.signs.specs.Bytes.{tritOf}
+use Rattle.signs.specs.Pieces.{decoded}
+use Rattle.brackets.specs.Parts.{membersAt, membersFrom}
+use Rattle.brackets.specs.Walks.{tourAt, tourStep, membersLeft, membersOn}
+use Rattle.brackets.proofs.Steps.{tour-starts, tour-goes}
+use Rattle.brackets.specs.declared.Str.{Str}
+use Rattle.brackets.specs.declared.Ref.{Ref}
+use Rattle.brackets.specs.declared.Tour.{Tour}
+use Rattle.brackets.specs.declared.Toured.the-variants as toured
+use Rattle.brackets.specs.declared.Members.{Members}
 use Rattle.form.specs.declared.Label.{Label}
 use Rattle.form.specs.declared.Label.the-variants as label
 use Rattle.form.specs.declared.Payload.{Payload}

@@ -14,9 +14,9 @@ use Rattle.ground.specs.Refusals.{refusal}
 use Rattle.ground.specs.declared.Place.{Place}
 use Rattle.ground.specs.declared.Refusal.{Refusal}
 use Rattle.kinds.specs.Kinds.{wide}
-use Rattle.form.specs.Parts.{membersAt}
-use Rattle.form.specs.declared.Str.{Str}
-use Rattle.form.specs.declared.Ref.{Ref}
+use Rattle.brackets.specs.Parts.{membersAt}
+use Rattle.brackets.specs.declared.Str.{Str}
+use Rattle.brackets.specs.declared.Ref.{Ref}
 use Rattle.form.specs.declared.Range.{Range}
 use Rattle.form.specs.declared.Label.{Label}
 use Rattle.form.specs.declared.Label.the-variants as label

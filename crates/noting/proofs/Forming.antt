@@ -17,27 +17,27 @@ use Rattle.lexis.specs.declared.Reader.{Reader}
 use Rattle.lexis.specs.declared.Token.{Token}
 use Rattle.lexis.specs.declared.Step.{Step}
 use Rattle.lexis.specs.declared.Step.the-variants as step
-use Rattle.form.specs.Words.{isSort, isMark, isSpelled, isWord, kindOf}
-use Rattle.form.specs.Parts.{isPart, partOf, partWidth, str, noOperand, operand, concatAt, closedOperand, operandFrom, operandAt, partsAt, setAt, membersAt}
+use Rattle.brackets.specs.Words.{isSort, isMark, isSpelled, isWord, kindOf}
+use Rattle.brackets.specs.Parts.{isPart, partOf, partWidth, str, noOperand, operand, concatAt, closedOperand, operandFrom, operandAt, partsAt, setAt, membersAt}
 use Rattle.form.specs.Forms.{only, after, afterOperand, afterRef, afterSet, afterPoint, markAt, ended, setForm, pointAt, sourceForm, linkOf, linkFrom, linkAt, optionFrom, optionAt, isLabel, labelOf, scopeForm, identForm, isPayload, payloadOf, attrForm, metaForm, ioForm, operandIf, metaFrom, metaIf, wiringForm, namedForm, cellForm, bodyForm, isOpening, openForm, formAt}
-use Rattle.form.specs.declared.Str.{Str}
-use Rattle.form.specs.declared.Ref.{Ref}
-use Rattle.form.specs.declared.Operand.{Operand}
+use Rattle.brackets.specs.declared.Str.{Str}
+use Rattle.brackets.specs.declared.Ref.{Ref}
+use Rattle.brackets.specs.declared.Operand.{Operand}
 use Rattle.form.specs.declared.Point.{Point}
 use Rattle.form.specs.declared.Decl.{Decl}
 use Rattle.form.specs.declared.Decl.the-variants as decl
 use Rattle.form.specs.declared.Declared.{Declared}
 use Rattle.form.specs.declared.Form.{Form}
 use Rattle.form.specs.declared.Form.the-variants as form
-use Rattle.form.specs.declared.Measured.{Measured}
-use Rattle.form.specs.declared.Measured.the-variants as measured
-use Rattle.form.specs.declared.Taken.{Taken}
-use Rattle.form.specs.declared.Taken.the-variants as taken
+use Rattle.brackets.specs.declared.Measured.{Measured}
+use Rattle.brackets.specs.declared.Measured.the-variants as measured
+use Rattle.brackets.specs.declared.Taken.{Taken}
+use Rattle.brackets.specs.declared.Taken.the-variants as taken
 use Rattle.form.specs.declared.Pointed.{Pointed}
 use Rattle.form.specs.declared.Pointed.the-variants as pointed
 use Rattle.form.specs.declared.Linked.{Linked}
 use Rattle.form.specs.declared.Linked.the-variants as linked
-use Rattle.form.proofs.Sums.{set-count, operand-sum}
+use Rattle.brackets.proofs.Sums.{set-count, operand-sum}
 use Rattle.saying.proofs.Tokens.{Nothing, SoundToken, SoundStep, indexes, token-sound, inside-sound}
 use Rattle.noting.specs.Formed.{StrIn, ConstantIn, RefIn, NothingMore, LabelIn, PayloadIn, OperandIn, WiringIn, DeclIn, Formed}
 

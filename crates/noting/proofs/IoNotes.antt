@@ -16,8 +16,8 @@ use Rattle.ground.proofs.Regions.{pad-put, part-length}
 use Rattle.ground.specs.Refusals.{refusal}
 use Rattle.ground.specs.declared.Place.{Place}
 use Rattle.ground.specs.declared.Refusal.{Refusal}
-use Rattle.form.specs.declared.Str.{Str}
-use Rattle.lexis.specs.Pieces.{decoded}
+use Rattle.brackets.specs.declared.Str.{Str}
+use Rattle.signs.specs.Pieces.{decoded}
 use Rattle.netlist.specs.Netlist.{Io, Netlist}
 use Rattle.kinds.specs.Kinds.{wide}
 use Rattle.netlist.specs.Rules.{taken, ioNames, isEmpty, shortString, roomy}

@@ -9,8 +9,8 @@ use lib.ListN.{length}
 use Rattle.ground.specs.Choice.{pick}
 use Rattle.ground.proofs.Bools.{never-both}
 use Rattle.ground.specs.declared.Refusal.{Refusal}
-use Rattle.lexis.specs.Pieces.{decoded}
-use Rattle.lexis.proofs.Strings.{meant-inside}
+use Rattle.signs.specs.Pieces.{decoded}
+use Rattle.signs.proofs.Strings.{meant-inside}
 use Rattle.saying.specs.Notes.{Spells}
 use Rattle.ground.specs.Lists.{allOf}
 use borrow.Author.Tests.{lt-ltb, le-ltb, le-leb, lt-leb, eq-eqb, ne-eqb}

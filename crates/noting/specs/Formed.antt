@@ -7,12 +7,12 @@ use mathlib.Core.List.{List}
 use lib.Dec.{leb}
 use lib.ListN.{length}
 use Rattle.kinds.specs.Kinds.{kindAt}
-use Rattle.lexis.specs.Pieces.{decoded}
-use Rattle.form.specs.Parts.{partsAt, membersAt}
-use Rattle.form.proofs.Sums.{widths}
-use Rattle.form.specs.declared.Str.{Str}
-use Rattle.form.specs.declared.Ref.{Ref}
-use Rattle.form.specs.declared.Operand.{Operand}
+use Rattle.signs.specs.Pieces.{decoded}
+use Rattle.brackets.specs.Parts.{partsAt, membersAt}
+use Rattle.brackets.proofs.Sums.{widths}
+use Rattle.brackets.specs.declared.Str.{Str}
+use Rattle.brackets.specs.declared.Ref.{Ref}
+use Rattle.brackets.specs.declared.Operand.{Operand}
 use Rattle.form.specs.declared.Label.{Label}
 use Rattle.form.specs.declared.Label.the-variants as label
 use Rattle.form.specs.declared.Payload.{Payload}

@@ -8,7 +8,7 @@ use lib.ListN.{length}
 use Rattle.ground.specs.Lists.{joined, total}
 use Rattle.ground.specs.Regions.{pad, part}
 use Rattle.ground.specs.declared.Refusal.{Refusal}
-use Rattle.form.specs.declared.Operand.{Operand}
+use Rattle.brackets.specs.declared.Operand.{Operand}
 use Rattle.form.specs.declared.Declared.{Declared}
 use Rattle.netlist.specs.Netlist.{Meta, Io, Cell, Netlist, stringsOf, membersOf, attrBitsOf, runsOf, runBitsOf}
 use Rattle.netlist.specs.Rules.{outputBits, roomy}

@@ -7,7 +7,7 @@ use Rattle.ground.specs.Choice.{pick}
 use Rattle.ground.specs.Refusals.{refusal}
 use Rattle.ground.specs.declared.Place.{Place}
 use Rattle.ground.specs.declared.Refusal.{Refusal}
-use Rattle.form.specs.declared.Str.{Str}
+use Rattle.brackets.specs.declared.Str.{Str}
 use Rattle.form.specs.declared.Decl.the-variants as decl
 use Rattle.form.specs.declared.Declared.{Declared}
 use Rattle.kinds.specs.Kinds.{wide}

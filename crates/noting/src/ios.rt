@@ -4,7 +4,7 @@ use crate::Ruling;
 use crate::Tally;
 use crate::refuse;
 use asking::names::io_taken;
-use form::Str;
+use brackets::Str;
 use ground::Place;
 use kinds::wide;
 ghost use mathlib.Core.Path.{_≡_};

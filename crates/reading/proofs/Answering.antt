@@ -18,8 +18,8 @@ use Rattle.ground.specs.Regions.{pad, zeros, over}
 use Rattle.ground.specs.Refusals.{at, refusal}
 use Rattle.ground.specs.declared.Place.{Place}
 use Rattle.ground.specs.declared.Refusal.{Refusal}
-use Rattle.lexis.specs.Whole.{wholeOf}
-use Rattle.lexis.specs.declared.Whole.the-variants as whole
+use Rattle.scanning.specs.Whole.{wholeOf}
+use Rattle.scanning.specs.declared.Whole.the-variants as whole
 use Rattle.netlist.specs.Netlist.{Cell, Netlist, runsOf}
 use Rattle.netlist.specs.Rules.{widthsOf}
 use Rattle.netlist.specs.Good.{short}

@@ -10,7 +10,7 @@ ghost use mathlib.Core.Path.{_≡_};
 ghost use Prim.Native.Nat.{_≤_};
 ghost use lib.ListN.{length};
 ghost use Rattle.ground.specs.Regions.{zeros};
-ghost use Rattle.lexis.specs.Bytes.{table};
+ghost use Rattle.signs.specs.Bytes.{table};
 ghost use Rattle.reading.specs.Answers.{rowsFound, FindsLost, SomeWhole, Ends};
 
 // Whether the run rows tell that each piece of the text resolves. A part without bits leaves no run: where one was read, they tell nothing.

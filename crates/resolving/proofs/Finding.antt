@@ -16,13 +16,13 @@ use Rattle.ground.specs.Lists.{joined}
 use Rattle.ground.specs.Regions.{pad, zeros}
 use Rattle.ground.specs.declared.Place.{Place}
 use Rattle.ground.proofs.Bools.{bool-cases}
-use Rattle.form.specs.Parts.{PartAt, partsAt}
-use Rattle.form.specs.declared.Piece.{Piece}
-use Rattle.form.specs.declared.Base.{Base}
-use Rattle.form.specs.declared.Base.the-variants as base
-use Rattle.form.specs.declared.Part.{Part}
-use Rattle.form.specs.declared.Part.the-variants as part
-use Rattle.form.specs.declared.Operand.{Operand}
+use Rattle.brackets.specs.Parts.{PartAt, partsAt}
+use Rattle.brackets.specs.declared.Piece.{Piece}
+use Rattle.brackets.specs.declared.Base.{Base}
+use Rattle.brackets.specs.declared.Base.the-variants as base
+use Rattle.brackets.specs.declared.Part.{Part}
+use Rattle.brackets.specs.declared.Part.the-variants as part
+use Rattle.brackets.specs.declared.Operand.{Operand}
 use Rattle.netlist.specs.Rules.{resolves}
 use Rattle.saying.specs.Values.{rowFrom, rowOf}
 use Rattle.saying.specs.Pieces.{PieceAt, basePieces, baseIn, operandPieces, unresolved, firstUnresolved}

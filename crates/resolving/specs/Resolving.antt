@@ -10,14 +10,14 @@ use Rattle.ground.specs.Choice.{pick}
 use Rattle.ground.specs.Lists.{every}
 use Rattle.ground.specs.Regions.{pad}
 use Rattle.ground.specs.declared.Place.{Place}
-use Rattle.form.specs.declared.Piece.{Piece}
-use Rattle.form.specs.declared.Base.{Base}
-use Rattle.form.specs.declared.Base.the-variants as base
-use Rattle.form.specs.declared.Operand.{Operand}
+use Rattle.brackets.specs.declared.Piece.{Piece}
+use Rattle.brackets.specs.declared.Base.{Base}
+use Rattle.brackets.specs.declared.Base.the-variants as base
+use Rattle.brackets.specs.declared.Operand.{Operand}
 use Rattle.netlist.specs.Netlist.{Run, const, piece}
 use Rattle.netlist.specs.Tables.{runRows}
 use Rattle.saying.specs.Values.{rowOf, rowRun}
-use Rattle.form.specs.Parts.{PartAt, partsAt}
+use Rattle.brackets.specs.Parts.{PartAt, partsAt}
 use Rattle.saying.specs.Pieces.{baseIn}
 use Rattle.saying.specs.Notes.{Maps}
 use Rattle.resolving.specs.declared.Lost.{Lost}

@@ -2,19 +2,19 @@
 // rows become rows. It promises the place of the first piece that does not resolve, zero-width and zero-times ones included. Saying
 // stands below it, reading above.
 use asking::word_at;
-use form::Base;
-use form::Operand;
-use form::Part;
-use form::Piece;
-use form::Walked;
-use form::walks::walk_of;
-use form::walks::walk_step;
+use brackets::Base;
+use brackets::Operand;
+use brackets::Part;
+use brackets::Piece;
+use brackets::Walked;
+use brackets::walks::walk_of;
+use brackets::walks::walk_step;
 use ground::Place;
 ghost use mathlib.Core.Path.{_≡_};
 ghost use Prim.Native.Nat.{_≤_};
 ghost use lib.ListN.{length};
-ghost use Rattle.lexis.specs.Bytes.{table};
-ghost use Rattle.form.specs.Parts.{partsAt};
+ghost use Rattle.signs.specs.Bytes.{table};
+ghost use Rattle.brackets.specs.Parts.{partsAt};
 ghost use Rattle.saying.specs.Pieces.{baseIn};
 ghost use Rattle.resolving.specs.Resolving.{rowWord, RunsNumbered, RowsRuns, resolvesIn, rowResolves, rowsResolve, baseLost, lostFrom, operandOf, lostOf};
 

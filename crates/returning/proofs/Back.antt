@@ -9,8 +9,8 @@ use lib.Dec.{eqb}
 use lib.ListN.{length, drop, length-append}
 use Rattle.ground.specs.Choice.{pick}
 use Rattle.ground.specs.Lists.{total, upFrom}
-use Rattle.lexis.specs.Bytes.{classOf, classFrom}
-use Rattle.lexis.specs.Pieces.{insideEnd}
+use Rattle.signs.specs.Bytes.{classOf, classFrom}
+use Rattle.signs.specs.Pieces.{insideEnd}
 use Rattle.lexis.specs.Tokens.{tokenFrom, insideAt, follows}
 use Rattle.form.specs.Forms.{formAt, openForm}
 use Rattle.form.specs.declared.Form.the-variants as form

@@ -11,8 +11,8 @@ use lib.ListN.{length}
 use borrow.Author.Tests.{le-leb, lt-leb, leb-true, leb-false, le-ltb, eqb-false, ne-eqb}
 use Rattle.ground.specs.Lists.{every}
 use Rattle.ground.proofs.Bools.{bool-cases, never-both, and-true, every-first, every-more}
-use Rattle.lexis.specs.Whole.{wholeOf, badFrom, tailOf, sequences, endsInFeed}
-use Rattle.lexis.specs.declared.Whole.the-variants as whole
+use Rattle.scanning.specs.Whole.{wholeOf, badFrom, tailOf, sequences, endsInFeed}
+use Rattle.scanning.specs.declared.Whole.the-variants as whole
 use Rattle.writing.specs.Decimal.{digits}
 use Rattle.writing.proofs.Digits.{ten-pos}
 

@@ -11,18 +11,18 @@ use borrow.Author.Tests.{ltb-false}
 use Rattle.ground.specs.Choice.{pick}
 use Rattle.ground.proofs.Bools.{bool-cases, never-both}
 use Rattle.kinds.proofs.Widths.{picked}
-use Rattle.lexis.specs.Bytes.{isConstant, isLetter, isFeed, isSpecial}
-use Rattle.lexis.specs.Pieces.{spanEnd, digitsFrom, numeralAt, suffixAt, quotedAt, stringAt, decoded}
+use Rattle.signs.specs.Bytes.{isConstant, isLetter, isFeed, isSpecial}
+use Rattle.signs.specs.Pieces.{spanEnd, digitsFrom, numeralAt, suffixAt, quotedAt, stringAt, decoded}
 use Rattle.lexis.specs.Tokens.{refused, plain, judged, single, signedOf, opensPlaceholder, follows, constantOf, cellOf, namedFrom, ioOf, stringStep, numberOf, metaOf, wordOf, longOf, tokenFrom, tokenAt, insideAt, constant, cell, io, number, meta, string, placeholder}
 use Rattle.lexis.specs.declared.Token.{Token}
 use Rattle.lexis.specs.declared.Step.{Step}
 use Rattle.lexis.specs.declared.Step.the-variants as step
-use Rattle.lexis.specs.declared.pieces.Numeral.{Numeral}
-use Rattle.lexis.specs.declared.pieces.Quoted.{Quoted}
-use Rattle.lexis.specs.declared.pieces.Quoted.the-variants.{Closed, Malformed}
-use Rattle.lexis.proofs.Strings.{closed-size}
-use Rattle.form.specs.Words.{isSort}
-use Rattle.lexis.specs.declared.pieces.Suffix.{Suffix}
+use Rattle.signs.specs.declared.pieces.Numeral.{Numeral}
+use Rattle.signs.specs.declared.pieces.Quoted.{Quoted}
+use Rattle.signs.specs.declared.pieces.Quoted.the-variants.{Closed, Malformed}
+use Rattle.signs.proofs.Strings.{closed-size}
+use Rattle.brackets.specs.Words.{isSort}
+use Rattle.signs.specs.declared.pieces.Suffix.{Suffix}
 
 -- nothing to say
 abbrev pub Nothing : Type 0

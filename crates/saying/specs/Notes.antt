@@ -6,8 +6,8 @@ use mathlib.Core.List.{List, [], _∷_, map}
 use lib.Dec.{eqb}
 use lib.ListN.{length, getD}
 use Rattle.ground.specs.Choice.{pick}
-use Rattle.lexis.specs.Pieces.{decoded}
-use Rattle.form.specs.declared.Operand.{Operand}
+use Rattle.signs.specs.Pieces.{decoded}
+use Rattle.brackets.specs.declared.Operand.{Operand}
 use Rattle.netlist.specs.Netlist.{Meta, Io, Cell, Netlist}
 use Rattle.saying.specs.Values.{rowOf}
 

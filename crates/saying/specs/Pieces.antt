@@ -7,13 +7,13 @@ use mathlib.Core.Option.{Option, none, some}
 use lib.Dec.{leb}
 use Rattle.ground.specs.Lists.{joined}
 use Rattle.ground.specs.declared.Place.{Place}
-use Rattle.form.specs.Parts.{partsAt}
-use Rattle.form.specs.declared.Piece.{Piece}
-use Rattle.form.specs.declared.Base.{Base}
-use Rattle.form.specs.declared.Base.the-variants as base
-use Rattle.form.specs.declared.Part.{Part}
-use Rattle.form.specs.declared.Part.the-variants as part
-use Rattle.form.specs.declared.Operand.{Operand}
+use Rattle.brackets.specs.Parts.{partsAt}
+use Rattle.brackets.specs.declared.Piece.{Piece}
+use Rattle.brackets.specs.declared.Base.{Base}
+use Rattle.brackets.specs.declared.Base.the-variants as base
+use Rattle.brackets.specs.declared.Part.{Part}
+use Rattle.brackets.specs.declared.Part.the-variants as part
+use Rattle.brackets.specs.declared.Operand.{Operand}
 use Rattle.netlist.specs.Rules.{resolves}
 use Rattle.saying.specs.Values.{rowOf}
 

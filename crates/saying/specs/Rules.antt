@@ -9,8 +9,8 @@ use Rattle.ground.specs.Refusals.{at, refusal}
 use Rattle.ground.specs.declared.Place.{Place}
 use Rattle.ground.specs.declared.Refusal.{Refusal}
 use Rattle.kinds.specs.Kinds.{kindAt, wide}
-use Rattle.form.specs.Parts.{membersAt}
-use Rattle.form.specs.declared.Ref.{Ref}
+use Rattle.brackets.specs.Parts.{membersAt}
+use Rattle.brackets.specs.declared.Ref.{Ref}
 use Rattle.form.specs.declared.Wiring.{Wiring}
 use Rattle.form.specs.declared.Decl.{Decl}
 use Rattle.form.specs.declared.Decl.the-variants as decl

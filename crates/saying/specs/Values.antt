@@ -6,17 +6,17 @@ use lib.Dec.{eqb}
 use Rattle.ground.specs.Choice.{pick}
 use Rattle.ground.specs.Lists.{joined}
 use Rattle.ground.specs.Regions.{part}
-use Rattle.lexis.specs.Bytes.{tritOf}
-use Rattle.lexis.specs.Pieces.{decoded}
-use Rattle.form.specs.Parts.{partsAt}
-use Rattle.form.specs.declared.Str.{Str}
-use Rattle.form.specs.declared.Ref.{Ref}
-use Rattle.form.specs.declared.Piece.{Piece}
-use Rattle.form.specs.declared.Base.{Base}
-use Rattle.form.specs.declared.Base.the-variants as base
-use Rattle.form.specs.declared.Part.{Part}
-use Rattle.form.specs.declared.Part.the-variants as part
-use Rattle.form.specs.declared.Operand.{Operand}
+use Rattle.signs.specs.Bytes.{tritOf}
+use Rattle.signs.specs.Pieces.{decoded}
+use Rattle.brackets.specs.Parts.{partsAt}
+use Rattle.brackets.specs.declared.Str.{Str}
+use Rattle.brackets.specs.declared.Ref.{Ref}
+use Rattle.brackets.specs.declared.Piece.{Piece}
+use Rattle.brackets.specs.declared.Base.{Base}
+use Rattle.brackets.specs.declared.Base.the-variants as base
+use Rattle.brackets.specs.declared.Part.{Part}
+use Rattle.brackets.specs.declared.Part.the-variants as part
+use Rattle.brackets.specs.declared.Operand.{Operand}
 use Rattle.form.specs.declared.Label.{Label}
 use Rattle.form.specs.declared.Label.the-variants as label
 use Rattle.form.specs.declared.Payload.{Payload}

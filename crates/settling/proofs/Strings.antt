@@ -7,7 +7,7 @@ use native.Mathlib.Omega.{arith}
 use lib.ListN.{length, take, drop}
 use lib.Seq.{sets}
 use borrow.Author.Tests.{eq-eqb, ne-eqb}
-use Rattle.lexis.specs.Pieces.{decoded}
+use Rattle.signs.specs.Pieces.{decoded}
 use Rattle.saying.specs.Notes.{spelled}
 use Rattle.settling.proofs.Middle.{middle}
 

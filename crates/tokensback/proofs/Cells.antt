@@ -9,7 +9,7 @@ use lib.ListN.{drop, getD}
 use borrow.Author.Tests.{ne-eqb, eqb-true}
 use Rattle.ground.specs.Choice.{pick}
 use Rattle.ground.proofs.Bools.{bool-cases}
-use Rattle.lexis.specs.Bytes.{classFrom, classOf, isDigit}
+use Rattle.signs.specs.Bytes.{classFrom, classOf, isDigit}
 use Rattle.lexis.specs.Tokens.{took, token, cell, written, opensPlaceholder, cellOf}
 use Rattle.writing.specs.Words.{number}
 use Rattle.operands.specs.Operands.{offset, width}

@@ -11,10 +11,10 @@ use Rattle.ground.specs.Lists.{every}
 use Rattle.ground.specs.Regions.{zeros}
 use Rattle.ground.proofs.Bools.{and-first, and-second, every-first, every-more}
 use Rattle.ground.proofs.Tables.{at}
-use Rattle.lexis.specs.Bytes.{classFrom, classOf, isConstant, isLetter, tritOf}
-use Rattle.lexis.specs.Pieces.{spanEnd}
+use Rattle.signs.specs.Bytes.{classFrom, classOf, isConstant, isLetter, tritOf}
+use Rattle.signs.specs.Pieces.{spanEnd}
 use Rattle.lexis.specs.Tokens.{took, token, constant, constantOf, longOf}
-use Rattle.lexis.proofs.Bytes.{within-true}
+use Rattle.signs.proofs.Bytes.{within-true}
 use Rattle.netlist.specs.Rules.{isTrit}
 use Rattle.writing.specs.Words.{tritChar, trits}
 use Rattle.tokensback.proofs.Spans.{Fails}

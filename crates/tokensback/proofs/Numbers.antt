@@ -12,10 +12,10 @@ use Rattle.ground.specs.Choice.{pick}
 use Rattle.ground.specs.Lists.{total}
 use Rattle.ground.proofs.Bools.{bool-cases}
 use Rattle.ground.proofs.Regions.{part-next}
-use Rattle.lexis.specs.Bytes.{classFrom, classOf, isDigit}
-use Rattle.lexis.specs.Pieces.{Digits, digitsFrom, numeralAt}
+use Rattle.signs.specs.Bytes.{classFrom, classOf, isDigit}
+use Rattle.signs.specs.Pieces.{Digits, digitsFrom, numeralAt}
 use Rattle.lexis.specs.Tokens.{took, plain, number, single, signedOf, numberOf}
-use Rattle.lexis.proofs.Bytes.{digit-byte}
+use Rattle.signs.proofs.Bytes.{digit-byte}
 use Rattle.writing.specs.Decimal.{digits, places, decimal}
 use Rattle.writing.specs.Words as words
 use Rattle.writing.proofs.Digits.{split-law}

@@ -7,8 +7,8 @@ use native.Mathlib.Omega.{arith}
 use lib.Dec.{eqb}
 use lib.ListN.{drop, getD, length}
 use borrow.Author.Tests.{eq-eqb, ne-eqb}
-use Rattle.lexis.specs.Bytes.{isDigit}
-use Rattle.lexis.specs.Pieces.{suffixAt, quotedAt}
+use Rattle.signs.specs.Bytes.{isDigit}
+use Rattle.signs.specs.Pieces.{suffixAt, quotedAt}
 use Rattle.lexis.specs.Tokens.{took, token, io, ioOf}
 use Rattle.writing.specs.Words.{number}
 use Rattle.tokensback.proofs.Standing.{ends}

@@ -11,8 +11,8 @@ use lib.ListN.{drop, getD}
 use lib.Seq.{getD-drop, drop-drop}
 use borrow.Author.Tests.{eqb-true, ne-eqb, lt-leb}
 use Rattle.ground.proofs.Bools.{bool-cases}
-use Rattle.lexis.specs.Bytes.{classFrom, classOf, within, isWhite, isSpecial}
-use Rattle.lexis.specs.Pieces.{spanEnd, insideEnd}
+use Rattle.signs.specs.Bytes.{classFrom, classOf, within, isWhite, isSpecial}
+use Rattle.signs.specs.Pieces.{spanEnd, insideEnd}
 use Rattle.lexis.specs.Tokens.{took, plain, mark, follows, longOf, tokenFrom, tokenAt, insideAt}
 use Rattle.lexis.specs.declared.Token.{Token}
 use Rattle.tokensback.proofs.Standing.{Stands, Takes}

@@ -9,8 +9,8 @@ use lib.ListN.{drop, getD, length}
 use borrow.Author.Tests.{eqb-true}
 use Rattle.ground.specs.Lists.{every}
 use Rattle.ground.proofs.Bools.{bool-cases, or-false, every-first}
-use Rattle.lexis.specs.Bytes.{classFrom, classOf, isLetter}
-use Rattle.lexis.specs.Pieces.{spanEnd}
+use Rattle.signs.specs.Bytes.{classFrom, classOf, isLetter}
+use Rattle.signs.specs.Pieces.{spanEnd}
 use Rattle.lexis.specs.Tokens.{took, plain, word, wordOf, longOf}
 use Rattle.tokensback.proofs.Standing.{breaks, ends}
 

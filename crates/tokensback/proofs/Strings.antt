@@ -13,8 +13,8 @@ use Rattle.ground.specs.Regions.{zeros}
 use Rattle.ground.proofs.Bools.{bool-cases, and-first, and-second, every-first}
 use Rattle.ground.proofs.Regions.{part-next}
 use Rattle.ground.proofs.Tables.{at}
-use Rattle.lexis.specs.Bytes.{classFrom, classOf, isHex, isRaw, hexOf}
-use Rattle.lexis.specs.Pieces.{whole, prefixed, stringFrom, stringAt}
+use Rattle.signs.specs.Bytes.{classFrom, classOf, isHex, isRaw, hexOf}
+use Rattle.signs.specs.Pieces.{whole, prefixed, stringFrom, stringAt}
 use Rattle.netlist.specs.Rules.{isByte}
 use Rattle.writing.specs.Words.{rawByte, hexDigit, escaped}
 use Rattle.tokensback.proofs.Places.{past-byte}

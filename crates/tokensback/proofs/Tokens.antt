@@ -12,11 +12,11 @@ use Rattle.ground.specs.Lists.{every}
 use Rattle.ground.specs.Regions.{part}
 use Rattle.ground.proofs.Bools.{bool-cases, every-first}
 use Rattle.ground.proofs.Regions.{part-front, part-next}
-use Rattle.lexis.specs.Bytes.{classFrom, classOf, isSpecial, isConstant, isLetter, tritOf}
-use Rattle.lexis.specs.Pieces.{spanEnd, insideEnd, bytesIn, decoded, quotedAt}
+use Rattle.signs.specs.Bytes.{classFrom, classOf, isSpecial, isConstant, isLetter, tritOf}
+use Rattle.signs.specs.Pieces.{spanEnd, insideEnd, bytesIn, decoded, quotedAt}
 use Rattle.lexis.specs.Tokens.{metaOf, longOf, tokenFrom, insideAt, took, plain, token, written, lineEnd, textEnd, mark, word, constant, number, meta, io, cell, string}
 use Rattle.lexis.specs.declared.Token.{Token}
-use Rattle.lexis.proofs.Bytes.{within-true}
+use Rattle.signs.proofs.Bytes.{within-true}
 use Rattle.netlist.specs.Rules.{isByte, isTrit}
 use Rattle.writing.specs.Decimal.{decimal, signed}
 use Rattle.writing.specs.Words as words

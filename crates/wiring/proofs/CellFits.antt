@@ -14,10 +14,10 @@ use Rattle.ground.specs.Choice.{pick}
 use Rattle.ground.proofs.Bools.{bool-cases, and-true, never-both}
 use Rattle.kinds.specs.Kinds.{Kind, wide, alike, allAlike, compared, output, mux, adc, kindAt}
 use Rattle.kinds.proofs.Widths.{each-kind, wide-is, Fits, bounded}
-use Rattle.form.specs.Parts.{partsAt}
-use Rattle.form.specs.declared.Operand.{Operand}
+use Rattle.brackets.specs.Parts.{partsAt}
+use Rattle.brackets.specs.declared.Operand.{Operand}
 use Rattle.form.specs.declared.Wiring.{Wiring}
-use Rattle.form.proofs.Sums.{widths}
+use Rattle.brackets.proofs.Sums.{widths}
 use Rattle.noting.specs.Formed.{OperandIn, WiringIn}
 use Rattle.wiring.proofs.CellPlaces.{operand-inside, operand-none}
 

@@ -13,9 +13,9 @@ use Rattle.ground.specs.Choice.{pick}
 use Rattle.ground.specs.Refusals.{refusal}
 use Rattle.ground.proofs.Bools.{bool-cases, and-false, or-false}
 use Rattle.ground.specs.declared.Place.{Place}
-use Rattle.lexis.specs.Pieces.{decoded}
+use Rattle.signs.specs.Pieces.{decoded}
 use Rattle.kinds.specs.Kinds.{kindAt, outputKind}
-use Rattle.form.specs.Parts.{partsAt}
+use Rattle.brackets.specs.Parts.{partsAt}
 use Rattle.form.specs.declared.Wiring.{Wiring}
 use Rattle.netlist.specs.Netlist.{Run, Meta, Io, Cell, Netlist, cellRuns, runsOf, runBitsOf}
 use Rattle.netlist.specs.Rules.{outputBits, roomy}

@@ -10,7 +10,7 @@ use lib.Seq.{sets}
 use Rattle.ground.specs.Lists.{joined}
 use Rattle.ground.specs.Regions.{pad}
 use Rattle.ground.proofs.Regions.{pad-put}
-use Rattle.form.specs.declared.Operand.{Operand}
+use Rattle.brackets.specs.declared.Operand.{Operand}
 use Rattle.netlist.specs.Netlist.{Run, Cell, cellRuns, runsOf, runBitsOf}
 use Rattle.netlist.proofs.Lengths.{runBits-append}
 use Rattle.saying.specs.Pieces.{PieceAt, operandPieces}

@@ -12,11 +12,11 @@ use Rattle.ground.specs.Choice.{pick}
 use Rattle.ground.specs.Lists.{total}
 use Rattle.ground.proofs.Bools.{bool-cases}
 use Rattle.ground.proofs.Rest.{rest-end}
-use Rattle.lexis.specs.Pieces.{spanEnd, insideEnd, stringFrom, bytesIn, decoded}
+use Rattle.signs.specs.Pieces.{spanEnd, insideEnd, stringFrom, bytesIn, decoded}
 use Rattle.lexis.specs.Tokens.{took, plain, textEnd, tokenFrom, tokenAt, insideAt}
-use Rattle.form.specs.Parts.{partedOf, partsFrom, partsAt, nextPart}
-use Rattle.form.specs.declared.Operand.{Operand}
-use Rattle.form.proofs.Sums.{widths}
+use Rattle.brackets.specs.Parts.{partedOf, partsFrom, partsAt, nextPart}
+use Rattle.brackets.specs.declared.Operand.{Operand}
+use Rattle.brackets.proofs.Sums.{widths}
 
 pub string-inside : (text : List ℕ) (k : ℕ) → 0 < length (decoded text k) → k < length text
 unfolding stringFrom

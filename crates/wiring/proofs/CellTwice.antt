@@ -8,7 +8,7 @@ use native.Mathlib.Omega.{arith}
 use lib.Dec.{leb}
 use borrow.Author.Tests.{le-leb, lt-leb}
 use Rattle.ground.proofs.Bools.{or-left}
-use Rattle.lexis.specs.Pieces.{decoded}
+use Rattle.signs.specs.Pieces.{decoded}
 use Rattle.kinds.specs.Kinds.{kindAt}
 use Rattle.form.specs.declared.Wiring.{Wiring}
 use Rattle.netlist.specs.Netlist.{Cell}

@@ -5,9 +5,9 @@ use mathlib.Core.List.{List}
 use Prim.Native.Nat.{ℕ, _≤_}
 use native.Mathlib.Omega.{arith}
 use lib.ListN.{length}
-use Rattle.form.specs.Parts.{partsAt}
-use Rattle.form.specs.declared.Operand.{Operand}
-use Rattle.form.proofs.Sums.{widths}
+use Rattle.brackets.specs.Parts.{partsAt}
+use Rattle.brackets.specs.declared.Operand.{Operand}
+use Rattle.brackets.proofs.Sums.{widths}
 use Rattle.netlist.specs.Netlist.{operandWidth, runBitsOf}
 use Rattle.saying.specs.Values.{operandRuns}
 use Rattle.laying.proofs.Inside.{operand-in}

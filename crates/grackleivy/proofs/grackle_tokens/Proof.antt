@@ -1,4 +1,4 @@
-use Rattle.lexis.proofs.Sequences.{sound-short}
+use Rattle.scanning.proofs.Sequences.{sound-short}
 use Rattle.grackleivy.specs.Told.{tokensOf}
 use mathlib.Core.Path.{sym, _∙_}
 use borrow.Author.Needs.{needs}
@@ -8,8 +8,8 @@ use Rattle.grackleivy.proofs.grackle_tokens.Reads as reads
 use Rattle.grackleivy.proofs.grackle_tokens.Lts as lts
 use Rattle.grackleivy.proofs.count_from.Reads as count-from-reads
 use Rattle.grackleivy.proofs.refused_at.Reads as refused-at-reads
-use Rattle.lexis.proofs.classes.classes.Reads as classes-reads
-use Rattle.lexis.proofs.scan.whole.Reads as whole-reads
+use Rattle.signs.proofs.classes.classes.Reads as classes-reads
+use Rattle.scanning.proofs.scan.whole.Reads as whole-reads
 
 -- src/lib.rt:122:11
 whole-requires : tie.Need-whole-requires

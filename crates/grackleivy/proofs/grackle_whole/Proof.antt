@@ -5,7 +5,7 @@ use Rattle.grackleivy.proofs.grackle_whole.Reads as reads
 use Rattle.grackleivy.proofs.grackle_whole.Lts as lts
 use Rattle.grackleivy.proofs.accepted.Reads as accepted-reads
 use Rattle.grackleivy.proofs.told_by.Reads as told-by-reads
-use Rattle.lexis.proofs.scan.whole.Reads as whole-reads
+use Rattle.scanning.proofs.scan.whole.Reads as whole-reads
 
 -- src/lib.rt:128:11
 whole-requires : tie.Need-whole-requires

@@ -1,8 +1,8 @@
 use Rattle.metas.proofs.MetaLaws.{tour-whole, member-small, member-room, member-more, members-done, members-none}
 use Rattle.metas.specs.MetaRows.{rowsOf}
 use Rattle.saying.specs.Notes.{Maps}
-use Rattle.form.proofs.Steps.{tour-shrinks}
-use Rattle.form.specs.Walks.{membersLeft}
+use Rattle.brackets.proofs.Steps.{tour-shrinks}
+use Rattle.brackets.specs.Walks.{membersLeft}
 use lib.Seq.{sets}
 use lib.ListN.{length, length-set}
 use native.Mathlib.Omega.{arith}

@@ -2,15 +2,15 @@ use mathlib.Core.Path.{ap, sym, _∙_}
 use native.Mathlib.Omega.{arith}
 use lib.ListN.{length}
 use Rattle.ground.proofs.Regions.{length-zeros}
-use Rattle.lexis.proofs.Sequences.{sound-short}
+use Rattle.scanning.proofs.Sequences.{sound-short}
 use Rattle.reading.proofs.Answering.{sound-read, unsound-read}
 use borrow.Author.Needs.{needs}
 use Rattle.reading.proofs.read_blank.Statement.{statement}
 use Rattle.reading.proofs.read_blank.Tie as tie
 use Rattle.reading.proofs.read_blank.Reads as reads
 use Rattle.reading.proofs.read_blank.Lts as lts
-use Rattle.lexis.proofs.classes.classes.Reads as classes-reads
-use Rattle.lexis.proofs.scan.whole.Reads as whole-reads
+use Rattle.signs.proofs.classes.classes.Reads as classes-reads
+use Rattle.scanning.proofs.scan.whole.Reads as whole-reads
 use Rattle.reading.proofs.cleared.Reads as cleared-reads
 use Rattle.reading.proofs.read_sound.Reads as read-sound-reads
 

@@ -1,4 +1,4 @@
-use Rattle.form.specs.Parts.{partsAt}
+use Rattle.brackets.specs.Parts.{partsAt}
 use Rattle.resolving.specs.Resolving.{lostFrom, lostOf}
 use Rattle.resolving.proofs.Finding.{words-on, words-stop, word-none}
 use mathlib.Core.Path.{_≡_, refl, sym, ap, _∙_}

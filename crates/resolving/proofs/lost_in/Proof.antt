@@ -1,5 +1,5 @@
-use Rattle.form.specs.Walks.{mostParts, partsLeft, partsOn}
-use Rattle.form.proofs.Steps.{walk-starts, walk-goes, walk-shrinks}
+use Rattle.brackets.specs.Walks.{mostParts, partsLeft, partsOn}
+use Rattle.brackets.proofs.Steps.{walk-starts, walk-goes, walk-shrinks}
 use Rattle.resolving.specs.Resolving.{baseLost, lostFrom}
 use Rattle.resolving.proofs.Finding.{part-stop, part-on, part-none}
 use mathlib.Core.Path.{_≡_, refl, sym, ap, _∙_}
@@ -10,8 +10,8 @@ use Rattle.resolving.proofs.lost_in.Statement.{statement}
 use Rattle.resolving.proofs.lost_in.Tie as tie
 use Rattle.resolving.proofs.lost_in.Reads as reads
 use Rattle.resolving.proofs.lost_in.Lts as lts
-use Rattle.form.proofs.walks.walk_of.Reads as walk-of-reads
-use Rattle.form.proofs.walks.walk_step.Reads as walk-step-reads
+use Rattle.brackets.proofs.walks.walk_of.Reads as walk-of-reads
+use Rattle.brackets.proofs.walks.walk_step.Reads as walk-step-reads
 use Rattle.resolving.proofs.base_of.Reads as base-of-reads
 use Rattle.resolving.proofs.is_lost.Reads as is-lost-reads
 

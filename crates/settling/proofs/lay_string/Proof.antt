@@ -1,7 +1,7 @@
 use mathlib.Core.Path.{_≡_, sym, ap, _∙_}
 use Prim.Native.Nat.{ℕ, _+_}
 use lib.ListN.{length}
-use Rattle.lexis.specs.Pieces.{decoded}
+use Rattle.signs.specs.Pieces.{decoded}
 use Rattle.settling.proofs.Strings.{spelled-none, spelled-some, string-laid}
 use native.Mathlib.Omega.{arith}
 use borrow.Author.Needs.{needs}
@@ -9,7 +9,7 @@ use Rattle.settling.proofs.lay_string.Statement.{statement}
 use Rattle.settling.proofs.lay_string.Tie as tie
 use Rattle.settling.proofs.lay_string.Reads as reads
 use Rattle.settling.proofs.lay_string.Lts as lts
-use Rattle.lexis.proofs.decode.fill.Reads as fill-reads
+use Rattle.signs.proofs.decode.fill.Reads as fill-reads
 use Rattle.settling.proofs.wide.Reads as wide-reads
 
 -- src/lib.rt:37:9

@@ -4,8 +4,8 @@ use mathlib.Core.Path.{_≡_, refl, sym, _∙_}
 use native.Mathlib.Omega.{arith}
 use lib.ListN.{length}
 use Rattle.ground.specs.Text.{same}
-use Rattle.lexis.specs.Pieces.{decoded}
-use Rattle.lexis.proofs.Strings.{meant-inside, next-meant}
+use Rattle.signs.specs.Pieces.{decoded}
+use Rattle.signs.proofs.Strings.{meant-inside, next-meant}
 use Rattle.asking.proofs.NameLaws.{same-raw, same-on, same-off, same-none, tail-length}
 use borrow.Author.Needs.{needs}
 use Rattle.asking.proofs.names.same_string.Statement.{statement}

@@ -1,7 +1,7 @@
 -- The first member left that is wrong is the first of all, and the tables say of each what the notes say.
 use mathlib.Core.Path.{_≡_, refl, sym, _∙_}
-use Rattle.form.specs.Walks.{membersLeft}
-use Rattle.form.proofs.Steps.{tour-shrinks}
+use Rattle.brackets.specs.Walks.{membersLeft}
+use Rattle.brackets.proofs.Steps.{tour-shrinks}
 use Rattle.asking.specs.References.{firstMisnamed, misnamedIn}
 use Rattle.asking.specs.declared.Asks.the-variants.{Member}
 use Rattle.asking.proofs.RefLaws.{member-wrong, member-right, members-done, members-none, walk-starts, walk-said}

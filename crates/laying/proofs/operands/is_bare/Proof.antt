@@ -1,6 +1,6 @@
 use mathlib.Core.Path.{_∙_}
 use borrow.Author.Tests.{lt-leb, le-leb}
-use Rattle.form.specs.Parts.{baseOf, baseWidth}
+use Rattle.brackets.specs.Parts.{baseOf, baseWidth}
 use Rattle.laying.proofs.Walking.{none-bare, some-bare}
 use borrow.Author.Needs.{needs}
 use Rattle.laying.proofs.operands.is_bare.Statement.{statement}

@@ -2,7 +2,7 @@ use mathlib.Core.Path.{_≡_, refl, sym, ap, _∙_}
 use Prim.Native.Nat.{ℕ, suc, _+_}
 use native.Mathlib.Omega.{arith}
 use lib.ListN.{length}
-use Rattle.form.specs.Parts.{partsFrom}
+use Rattle.brackets.specs.Parts.{partsFrom}
 use Rattle.laying.proofs.Inside.{parts-in}
 use Rattle.laying.proofs.Spotting.{spot-done, spot-fits, spot-more, spot-full}
 use Rattle.laying.proofs.Walking.{parts-none, parts-refused, parts-other, parts-took, Walks, walks-as, walks-none, walks-done, walks-fits, walks-more, walks-full}

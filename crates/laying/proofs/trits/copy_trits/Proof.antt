@@ -1,7 +1,7 @@
 use Prim.Native.Nat.{_-_, _≤_}
 use mathlib.Core.Path.{_≡_}
 use mathlib.Core.List.{map}
-use Rattle.lexis.specs.Bytes.{tritOf}
+use Rattle.signs.specs.Bytes.{tritOf}
 use Rattle.ground.specs.Regions.{part}
 use lib.ListN.{length, take, length-set}
 use lib.Seq.{sets}

@@ -2,7 +2,7 @@
 use native.Mathlib.Omega.{arith}
 use borrow.Author.Tests.{ne-eqb}
 use Rattle.lexis.specs.Tokens.{spotAt}
-use Rattle.lexis.proofs.Laws.{in-text}
+use Rattle.signs.proofs.Laws.{in-text}
 use borrow.Author.Needs.{needs}
 use Rattle.lexis.proofs.Reader.spot_with.Statement.{statement}
 use Rattle.lexis.proofs.Reader.spot_with.Tie as tie

@@ -1,7 +1,7 @@
 use Prim.Native.Nat.{_+_}
 use mathlib.Core.Path.{refl}
 use Rattle.ground.proofs.Bools.{never-both}
-use Rattle.lexis.proofs.Laws.{in-text}
+use Rattle.signs.proofs.Laws.{in-text}
 use native.Mathlib.Omega.{arith}
 use borrow.Author.Tests.{eq-eqb, ne-eqb}
 -- A byte that is not 0 stands in the text, so the place behind it can be asked.

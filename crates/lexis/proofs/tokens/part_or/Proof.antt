@@ -1,8 +1,8 @@
 -- A mark is no 0, so the place behind it is in the text or at its end.
 use native.Mathlib.Omega.{arith}
 use borrow.Author.Tests.{eq-eqb, ne-eqb}
-use Rattle.lexis.specs.Pieces.{suffixAt}
-use Rattle.lexis.proofs.Laws.{in-text}
+use Rattle.signs.specs.Pieces.{suffixAt}
+use Rattle.signs.proofs.Laws.{in-text}
 use borrow.Author.Needs.{needs}
 use Rattle.lexis.proofs.tokens.part_or.Statement.{statement}
 use Rattle.lexis.proofs.tokens.part_or.Tie as tie

@@ -1,0 +1,7 @@
+pub mod Letters
+pub mod Measures
+pub mod Outcomes
+pub mod Shorts
+pub mod Steps
+pub mod Sums
+pub mod Widths

@@ -1,0 +1,118 @@
+// The parts of an operand and the members of a set again, one a step, for whoever builds their rows.
+use crate::Membered;
+use crate::Members;
+use crate::Operand;
+use crate::Parted;
+use crate::Tour;
+use crate::Toured;
+use crate::Walk;
+use crate::Walked;
+use crate::parts::is_part;
+use crate::parts::next_member;
+use crate::parts::next_part;
+use crate::parts::part_of;
+use ground::Place;
+use lexis::Reader;
+use lexis::Step;
+ghost use mathlib.Core.Path.{_≡_};
+ghost use Prim.Native.Nat.{_<_, _≤_};
+ghost use lib.ListN.{length};
+ghost use Rattle.signs.specs.Bytes.{table};
+ghost use Rattle.brackets.specs.Walks.{walkFrom, walkOf, walkOn, walkStep, tourAt, tourOn, tourStep};
+
+// The walk over an operand, by its first token.
+fn walk_from(text: &[u8], first: Step) -> Walk
+    requires { ⌜ length (now text) ≤ 65536 ⌝ }
+    ensures { λ r. ⌜ r ≡ walkFrom (now (text .entry)) first ⌝ }
+{
+    match first {
+        Step::Refused(_) => Walk::Past,
+        Step::Took(token, r) => {
+            let place = token.place;
+            if is_part(token) {
+                return Walk::Alone(part_of(token), place);
+            }
+            Walk::Within(r, text.len() + 1)
+        }
+    }
+}
+
+// The walk over the parts of an operand, the most significant first.
+pub fn walk_of(t: &[u8; 256], text: &[u8], operand: Operand) -> Walk
+    requires { ⌜ (now t ≡ table) × (length (now text) ≤ 65536) ⌝ }
+    ensures { λ r. ⌜ r ≡ walkOf (now (text .entry)) operand ⌝ }
+{
+    let at = operand.at;
+    if operand.given {
+        let reader = Reader { next: Place { at } };
+        return walk_from(text, reader.next_with(t, text));
+    }
+    Walk::Past
+}
+
+fn walk_on(left: usize, found: Parted) -> Walked
+    requires { ⌜ 0 < left ⌝ }
+    ensures { λ r. ⌜ r ≡ walkOn left found ⌝ }
+{
+    match found {
+        Parted::Took(p, place, r) => Walked::Part(p, place, Walk::Within(r, left - 1)),
+        Parted::Other(_, _) => Walked::Done,
+        Parted::Refused(_) => Walked::Done,
+    }
+}
+
+// The next part of the walk.
+pub fn walk_step(t: &[u8; 256], text: &[u8], walk: Walk) -> Walked
+    requires { ⌜ now t ≡ table ⌝ }
+    ensures { λ r. ⌜ r ≡ walkStep (now (text .entry)) walk ⌝ }
+{
+    match walk {
+        Walk::Past => Walked::Done,
+        Walk::Alone(p, place) => Walked::Part(p, place, Walk::Past),
+        Walk::Within(r, left) => {
+            if left == 0 {
+                return Walked::Done;
+            }
+            walk_on(left, next_part(t, text, r))
+        }
+    }
+}
+
+// The walk over the members of a set.
+pub fn tour_of(text: &[u8], members: Members) -> Tour
+    requires { ⌜ length (now text) ≤ 65536 ⌝ }
+    ensures { λ r. ⌜ r ≡ tourAt (now (text .entry)) (members .at) ⌝ }
+{
+    let at = members.at;
+    Tour {
+        next: Reader { next: Place { at } },
+        left: text.len() + 1,
+    }
+}
+
+fn tour_on(left: usize, found: Membered) -> Toured
+    requires { ⌜ 0 < left ⌝ }
+    ensures { λ r. ⌜ r ≡ tourOn left found ⌝ }
+{
+    match found {
+        Membered::Took(m, next) => {
+            let left = left - 1;
+            Toured::Member(m, Tour { next, left })
+        }
+        Membered::Other(_, _) => Toured::Done,
+        Membered::Refused(_) => Toured::Done,
+    }
+}
+
+// The next member of the walk.
+pub fn tour_step(t: &[u8; 256], text: &[u8], tour: Tour) -> Toured
+    requires { ⌜ now t ≡ table ⌝ }
+    ensures { λ r. ⌜ r ≡ tourStep (now (text .entry)) tour ⌝ }
+{
+    let left = tour.left;
+    let next = tour.next;
+    if left == 0 {
+        return Toured::Done;
+    }
+    tour_on(left, next_member(t, text, next))
+}

@@ -1,0 +1,20 @@
+use mathlib.Core.Path.{ap₂}
+use borrow.Author.Needs.{needs}
+use Rattle.signs.specs.Decoding.{seen}
+use Rattle.signs.proofs.decode.decode.Statement.{statement}
+use Rattle.signs.proofs.decode.decode.Tie as tie
+
+size-of-requires : tie.Need-size-of-requires
+size-of-requires c κs = search needs
+
+fill-requires : tie.Need-fill-requires
+fill-requires c κs = search needs
+
+same-length : tie.Need-same-length
+same-length c = search needs
+
+returns : tie.Need-returns
+returns c = ap₂ seen (c .before .before .before .before .size-of .ensures) (c .before .before .fill .ensures)
+
+pub decode-spec : {M : Type 1} → statement M
+decode-spec = tie.close (tie.spec size-of-requires fill-requires same-length returns)
