@@ -6,7 +6,7 @@ use lib.ListN.{length}
 use borrow.Author.Tests.{le-ltb}
 use Rattle.reading.specs.Outcome.{Outcome, readOf}
 use Rattle.reading.specs.declared.Read.the-variants as read
-use Rattle.printing.specs.Lines.{canonical}
+use Rattle.lines.specs.Lines.{canonical}
 use Rattle.printing.specs.Outcome.{written, printOf}
 use Rattle.printing.specs.declared.Printed.the-variants as printed
 use Rattle.accepting.proofs.Good.{Accepted, accepted-good}

@@ -20,7 +20,7 @@ use Rattle.netlist.specs.Rules.{metaSound, shape, ranges, references, mayRefer,
 use Rattle.saying.specs.Rules.{Sofar, metadata, saidBy, askedOf, firstMisnamed}
 use Rattle.saying.specs.Values.{scopeOf, attrOf}
 use Rattle.writing.specs.Words as words
-use Rattle.printing.specs.Lines.{point, scopeLine}
+use Rattle.lines.specs.Lines.{point, scopeLine}
 use Rattle.fronts.specs.Fronts.{Rowed}
 use Rattle.tokensback.proofs.Standing.{Stands, Takes}
 use Rattle.tokensback.proofs.Tokens.{behind-space, spaced, constant-back, constant-meant, word-letters}

@@ -24,7 +24,7 @@ use Rattle.netlist.specs.Netlist.{Meta, Io, setMeta, sourceMeta, scopeMeta, ind
 use Rattle.netlist.specs.Rules.{metaSound, ioSound, isByte}
 use Rattle.saying.specs.Rules.{Sofar, pad, saidBy, askedOf, firstMisnamed}
 use Rattle.writing.specs.Words as words
-use Rattle.printing.specs.Lines.{metaLine, ioLine}
+use Rattle.lines.specs.Lines.{metaLine, ioLine}
 use Rattle.tokensback.proofs.Standing.{Stands, Declares}
 use Rattle.tokensback.proofs.Tokens.{io-back, string-decoded}
 use Rattle.linesback.proofs.Heads.{rest-next, Formed, Worded, worded, declares, ended-back, keyworded, set-opened}

@@ -13,7 +13,7 @@ use Rattle.form.specs.Forms.{pointAt}
 use Rattle.form.specs.declared.Pointed.the-variants as pointed
 use Rattle.netlist.specs.Rules.{isByte}
 use Rattle.writing.specs.Words as words
-use Rattle.printing.specs.Lines.{point}
+use Rattle.lines.specs.Lines.{point}
 use Rattle.tokensback.proofs.Standing.{Takes, ends}
 use Rattle.tokensback.proofs.Tokens.{behind-space, spaced, spaced-mark, mark-back, hash-back, string-back, string-decoded}
 

@@ -1,5 +1,3 @@
-pub mod Cases
-pub mod Rows
 pub mod One
 pub mod Views
 pub mod Trits

@@ -19,7 +19,7 @@ use Rattle.netlist.proofs.Laying.{Long}
 use Rattle.checking.proofs.Top.{cuts}
 use Rattle.writing.specs.Stands.{most, Wrote}
 use Rattle.writing.proofs.Stands.{same-text, standing}
-use Rattle.printing.specs.Lines.{canonical}
+use Rattle.lines.specs.Lines.{canonical}
 use Rattle.printing.specs.Whole.{canonicalThen, Sound}
 use Rattle.printing.specs.Outcome.{Outcome, made, written, printOf}
 use Rattle.printing.specs.declared.Printed.the-variants as printed

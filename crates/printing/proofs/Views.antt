@@ -8,7 +8,7 @@ use Rattle.netlist.specs.Tables.{Tables}
 use Rattle.netlist.specs.View.{metaIn, metasIn, ioIn, iosIn, runIn, runsIn, cellIn, cellsIn}
 use Rattle.operands.specs.Operands.{holding}
 use Rattle.celllines.specs.CellLines.{naming}
-use Rattle.printing.specs.Pools.{pools}
+use Rattle.lines.specs.Pools.{pools}
 
 module _ (T : Tables) where
   pub metas-by-pools : (n : ℕ) (rows : List ℕ) → metasIn T n rows ≡ metasIn (pools (T .strings) (T .members) (T .attrBits)) n rows

@@ -18,8 +18,8 @@ use Rattle.operands.specs.Operands.{holding, heldRuns}
 use Rattle.numbering.specs.Numbers.{numbersFrom, numbersBy, rowWidths}
 use Rattle.numbering.proofs.Laws.{widths-of, numbers-of, widths-length, numbers-length}
 use Rattle.celllines.specs.CellLines.{cellLines, naming}
-use Rattle.printing.specs.Lines.{metaLines, ioLines, isBare, lines, canonical}
-use Rattle.printing.specs.Pools.{pools}
+use Rattle.lines.specs.Lines.{metaLines, ioLines, isBare, lines, canonical}
+use Rattle.lines.specs.Pools.{pools}
 use Rattle.printing.specs.Whole.{canonicalThen, Sound}
 use Rattle.printing.proofs.Views.{metas-by-pools, ios-by-pools, runs-by-trits, cells-by-strings}
 

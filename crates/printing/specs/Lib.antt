@@ -1,4 +1,2 @@
-pub mod Lines
-pub mod Pools
 pub mod Whole
 pub mod Outcome

@@ -9,7 +9,7 @@ use Rattle.ground.specs.Regions.{over}
 use Rattle.netlist.specs.Good.{checkOf, netlistIn}
 use Rattle.netlist.specs.declared.Checked.{Checked}
 use Rattle.netlist.specs.declared.Checked.the-variants as checked
-use Rattle.printing.specs.Lines.{canonical}
+use Rattle.lines.specs.Lines.{canonical}
 use Rattle.printing.specs.declared.Printed.{Printed}
 use Rattle.printing.specs.declared.Printed.the-variants as printed
 

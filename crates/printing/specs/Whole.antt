@@ -10,7 +10,7 @@ use Rattle.netlist.specs.Netlist.{Netlist}
 use Rattle.netlist.specs.Rules.{isTrit}
 use Rattle.netlist.specs.Tables.{Tables}
 use Rattle.numbering.specs.Numbers.{rowWidths, narrow}
-use Rattle.printing.specs.Lines.{isBare, lines}
+use Rattle.lines.specs.Lines.{isBare, lines}
 
 unfoldable pub canonicalThen : Netlist → List ℕ → List ℕ
 canonicalThen N k = pick (isBare N) (10 ∷ k) (lines N k)

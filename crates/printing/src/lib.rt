@@ -1,8 +1,6 @@
 // Printing: the canonical text of the netlist in lent tables. It promises the text, its length and every byte of the room as the
 // definitions of specs/ give them. The check of tables stands below it, the programs above.
 mod good;
-mod ios;
-mod metas;
 
 use checking::check_tables;
 use good::count_good;
@@ -17,7 +15,7 @@ ghost use lib.ListN.{length};
 ghost use Rattle.ground.specs.Refusals.{at, refusal};
 ghost use Rattle.netlist.specs.Tables.{tablesIn};
 ghost use Rattle.netlist.specs.Good.{good, netlistIn};
-ghost use Rattle.printing.specs.Lines.{canonical};
+ghost use Rattle.lines.specs.Lines.{canonical};
 ghost use Rattle.printing.specs.Outcome.{made, written, printOf};
 ghost use Rattle.printing.specs.declared.Printed.the-variants as printed;
 

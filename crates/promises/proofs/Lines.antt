@@ -29,7 +29,7 @@ use Rattle.writing.specs.Words.{text, number, hash, escaped, quoted, trits, ref
 use Rattle.operands.specs.Operands.{offset, width, runs}
 use Rattle.numbering.specs.Numbers.{numbersFrom}
 use Rattle.celllines.specs.CellLines.{nameText, operandText, cellLine, cellLines}
-use Rattle.printing.specs.Lines.{point, metaLines, ioLines, lines, canonical}
+use Rattle.lines.specs.Lines.{point, metaLines, ioLines, lines, canonical}
 use Rattle.loadlist.specs.Records.{recordsIn}
 use Rattle.loadlist.specs.Check.{goodRecord, badRecordFrom, badRecord, listedOf}
 use Rattle.loadlist.specs.Run.{slotsFrom, outputsIn, runOf}

@@ -16,7 +16,7 @@ use Rattle.netlist.proofs.Laying.{Long, Layout, view-layout, good-is, layout-go
 use Rattle.declaring.specs.Reading.{says, reading}
 use Rattle.reading.specs.Outcome.{readOf, made, workLength}
 use Rattle.reading.specs.declared.Read.the-variants as read
-use Rattle.printing.specs.Lines.{canonical}
+use Rattle.lines.specs.Lines.{canonical}
 use Rattle.printing.specs.Outcome.{printOf}
 use Rattle.printing.specs.declared.Printed.the-variants as printed
 use Rattle.accepting.proofs.Good.{Accepted, accepted-good}

@@ -9,7 +9,7 @@ use Rattle.netlist.specs.declared.Found.{Found}
 use Rattle.netlist.specs.declared.Found.the-variants as found
 use Rattle.declaring.specs.Reading.{Reading, says, refused, reading}
 use Rattle.printing.specs.Outcome as print
-use Rattle.printing.specs.Lines.{canonical}
+use Rattle.lines.specs.Lines.{canonical}
 use Rattle.printing.specs.declared.Printed.{Printed}
 use Rattle.printing.specs.declared.Printed.the-variants as printed
 use Rattle.naming.specs.Names as name

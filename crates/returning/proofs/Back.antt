@@ -23,7 +23,7 @@ use Rattle.saying.specs.Rules.{nothing}
 use Rattle.declaring.specs.Reading.{declarationsFrom, all, says, netlistOf, readSound}
 use Rattle.declaring.proofs.Declaring.{form-ends}
 use Rattle.celllines.specs.CellLines.{cellLines}
-use Rattle.printing.specs.Lines.{metaLines, ioLines, lines}
+use Rattle.lines.specs.Lines.{metaLines, ioLines, lines}
 use Rattle.fronts.specs.Fronts.{cellsSo, numberPast, numberCell}
 use Rattle.fronts.proofs.Rows.{length-mapped}
 use Rattle.fronts.proofs.Cutting.{cells-back}

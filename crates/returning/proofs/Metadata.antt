@@ -14,7 +14,7 @@ use Rattle.kinds.proofs.Widths.{picked, wide-is}
 use Rattle.netlist.specs.Netlist.{Meta, Io, setMeta, sourceMeta, scopeMeta, indexedMeta, identMeta, bitsMeta, integerMeta, isScope}
 use Rattle.netlist.specs.Rules.{isNumber, refers, mayRefer, isMember, isSource, metaSound, ioSound}
 use Rattle.writing.specs.Words.{text, quoted}
-use Rattle.printing.specs.Lines.{point, scopeLine, attrValue, metaBody, metaLine, ioLine}
+use Rattle.lines.specs.Lines.{point, scopeLine, attrValue, metaBody, metaLine, ioLine}
 use Rattle.returning.proofs.Plain.{Fine, Lined, fine-more, line-end, line-first}
 use Rattle.returning.proofs.Words.{text-fine, number-fine, hash-fine, quoted-fine, trits-fine, reference-fine, references-fine, option-fine}
 

@@ -11,7 +11,7 @@ use Rattle.ground.proofs.Bools.{bool-cases, never-both, and-true, true-and}
 use Rattle.netlist.specs.Netlist.{Meta, Io, Cell, Netlist}
 use Rattle.netlist.specs.Rules.{valid}
 use Rattle.declaring.specs.Reading.{Reading, says, refused, readSound, reading}
-use Rattle.printing.specs.Lines.{isBare, lines, canonical}
+use Rattle.lines.specs.Lines.{isBare, lines, canonical}
 use Rattle.returning.proofs.Plain.{Fine, line-end, no-lines, lined-fine, fine-sound}
 use Rattle.returning.proofs.Back.{lines-lined, lines-return, blank-says}
 

@@ -22,7 +22,7 @@ use Rattle.checking.proofs.Top.{Enough, checked-good}
 use Rattle.declaring.specs.Reading.{reading}
 use Rattle.reading.specs.Outcome.{Outcome, left, readOf, made, workLength}
 use Rattle.reading.specs.declared.Read.the-variants as read
-use Rattle.printing.specs.Lines.{canonical}
+use Rattle.lines.specs.Lines.{canonical}
 use Rattle.printing.specs.Outcome.{printOf, written}
 use Rattle.printing.specs.declared.Printed.the-variants as printed
 use Rattle.accepting.proofs.Good.{laid-good, laid-shown}

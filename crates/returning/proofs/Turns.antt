@@ -16,7 +16,7 @@ use Rattle.netlist.proofs.Laying.{valid-roomy}
 use Rattle.saying.specs.Rules.{Sofar, Said, metadata, pad, saidBy, added, ruledOut}
 use Rattle.declaring.specs.Reading.{declarationsFrom}
 use Rattle.declaring.proofs.Declaring.{goes-on}
-use Rattle.printing.specs.Lines.{metaLines, ioLines}
+use Rattle.lines.specs.Lines.{metaLines, ioLines}
 use Rattle.fronts.specs.Fronts.{metasSo, iosSo}
 use Rattle.fronts.proofs.Rows.{rowed, length-mapped}
 use Rattle.fronts.proofs.Sound.{meta-sound-at, io-sound-at}
