@@ -14,11 +14,12 @@ use crate::parts::part_of;
 use ground::Place;
 use lexis::Reader;
 use lexis::Step;
+use signs::classes::classes;
 ghost use mathlib.Core.Path.{_≡_};
 ghost use Prim.Native.Nat.{_<_, _≤_};
 ghost use lib.ListN.{length};
 ghost use Rattle.signs.specs.Bytes.{table};
-ghost use Rattle.brackets.specs.Walks.{walkFrom, walkOf, walkOn, walkStep, tourAt, tourOn, tourStep};
+ghost use Rattle.brackets.specs.Walks.{walkFrom, walkOf, walkOn, walkStep, operandWalk, tourAt, tourOn, tourStep, setTour};
 
 // The walk over an operand, by its first token.
 fn walk_from(text: &[u8], first: Step) -> Walk
@@ -115,4 +116,45 @@ pub fn tour_step(t: &[u8; 256], text: &[u8], tour: Tour) -> Toured
         return Toured::Done;
     }
     tour_on(left, next_member(t, text, next))
+}
+
+// The walk over the parts of an operand in any text, for callers who have no table.
+pub fn operand_walk(text: &[u8], operand: Operand) -> Walk
+    ensures { λ r. ⌜ r ≡ operandWalk (now (text .entry)) operand ⌝ }
+{
+    if 65536 < text.len() {
+        return Walk::Past;
+    }
+    let t = classes();
+    walk_of(&t, text, operand)
+}
+
+// The next part of a walk, likewise.
+pub fn walk_next(text: &[u8], walk: Walk) -> Walked
+    ensures { λ r. ⌜ r ≡ walkStep (now (text .entry)) walk ⌝ }
+{
+    let t = classes();
+    walk_step(&t, text, walk)
+}
+
+// The walk over the members of a set in any text.
+pub fn set_tour(text: &[u8], members: Members) -> Tour
+    ensures { λ r. ⌜ r ≡ setTour (now (text .entry)) (members .at) ⌝ }
+{
+    let at = members.at;
+    if 65536 < text.len() {
+        return Tour {
+            next: Reader { next: Place { at } },
+            left: 0,
+        };
+    }
+    tour_of(text, members)
+}
+
+// The next member of a walk, likewise.
+pub fn tour_next(text: &[u8], tour: Tour) -> Toured
+    ensures { λ r. ⌜ r ≡ tourStep (now (text .entry)) tour ⌝ }
+{
+    let t = classes();
+    tour_step(&t, text, tour)
 }

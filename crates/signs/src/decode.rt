@@ -7,6 +7,7 @@ ghost use lib.Seq.{sets};
 ghost use Rattle.signs.specs.Bytes.{table, isHex, hexOf};
 ghost use Rattle.signs.specs.Pieces.{decoded};
 ghost use Rattle.signs.specs.Decoding.{meantAt, seen, decodedInto};
+use super::classes::classes;
 use super::pieces::Quoted;
 use super::pieces::quoted_at;
 
@@ -79,11 +80,11 @@ fn size_of(t: &[u8; 256], text: &[u8], from: usize) -> usize
 }
 
 // The bytes that the string behind the opening quote means, into the room, and how many they are.
-pub fn decode(t: &[u8; 256], text: &[u8], from: usize, room: &mut [u8]) -> usize
-    requires { ⌜ now t ≡ table ⌝ }
+pub fn decode(text: &[u8], from: usize, room: &mut [u8]) -> usize
     ensures { λ r. ⌜ seen r (now (room .exit)) ≡ decodedInto (now (text .entry)) from (now (room .entry)) ⌝ }
 {
-    let size = size_of(t, text, from);
+    let t = classes();
+    let size = size_of(&t, text, from);
     fill(text, from, size, room);
     size
 }

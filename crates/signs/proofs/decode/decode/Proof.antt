@@ -4,8 +4,11 @@ use Rattle.signs.specs.Decoding.{seen}
 use Rattle.signs.proofs.decode.decode.Statement.{statement}
 use Rattle.signs.proofs.decode.decode.Tie as tie
 
+classes-requires : tie.Need-classes-requires
+classes-requires c κs = search needs
+
 size-of-requires : tie.Need-size-of-requires
-size-of-requires c κs = search needs
+size-of-requires c κs = c .before .classes .ensures
 
 fill-requires : tie.Need-fill-requires
 fill-requires c κs = search needs
@@ -17,4 +20,4 @@ returns : tie.Need-returns
 returns c = ap₂ seen (c .before .before .before .before .size-of .ensures) (c .before .before .fill .ensures)
 
 pub decode-spec : {M : Type 1} → statement M
-decode-spec = tie.close (tie.spec size-of-requires fill-requires same-length returns)
+decode-spec = tie.close (tie.spec classes-requires size-of-requires fill-requires same-length returns)
