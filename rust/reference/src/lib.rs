@@ -4,15 +4,18 @@
 //! so that a misreading of the documents would have to be made twice to stay unseen. The decided points are common to both. It uses no
 //! `unsafe`.
 //!
-//! Here are the whole text (refusals 2 to 4) and its tokens (5 and 6); `reading` is the reader above them (1 to 14).
+//! Here are the whole text (refusals 2 to 4) and its tokens (5 and 6); `reading` is the reader above them (1 to 14), and `logic`
+//! evaluates and translates what it has read, and runs load lists (15, 20 to 24).
 
 #![forbid(unsafe_code)]
 
 #[cfg(test)]
 mod examples;
 pub mod lines;
+pub mod logic;
 pub mod reading;
 
+pub use logic::{evaluate_into, run_into, translate_into};
 pub use reading::{check, print_by_buffer, print_into, read, read_into, read_into_lent, Tables, Work};
 
 /// The longest text, in bytes.

@@ -8,7 +8,7 @@ use crate::{refusal, Kind, Refusal};
 
 /// The keywords, numbered as the layout numbers kinds.
 #[derive(Clone, Copy, Debug, PartialEq, Eq)]
-pub(super) enum Keyword {
+pub(crate) enum Keyword {
     Input = 1,
     Output,
     Buf,
@@ -45,7 +45,7 @@ impl Keyword {
     }
 
     /// The keyword with this number in tables.
-    pub(super) fn numbered(number: u32) -> Option<Keyword> {
+    pub(crate) fn numbered(number: u32) -> Option<Keyword> {
         let all = [Input, Output, Buf, Not, And, Or, Xor, Mux, Adc, Eq, Ult, Slt];
         all.get((number as usize).wrapping_sub(1)).copied()
     }

@@ -4,7 +4,7 @@
 //! 9 to 13. What only the whole text decides comes last: pieces of cells declared later (14), and the order of strings.
 
 mod canonical;
-mod cells;
+pub(crate) mod cells;
 mod checking;
 mod evaluate;
 #[cfg(test)]
@@ -14,7 +14,7 @@ mod meta;
 mod names;
 mod operands;
 mod printing;
-mod tables;
+pub(crate) mod tables;
 
 pub use canonical::canonical;
 pub use checking::check;

@@ -13,9 +13,9 @@ pub const TRITS: usize = 393_728;
 pub(super) const MOST_METAS: usize = 512;
 pub(super) const MOST_MEMBERS: usize = 1_024;
 pub(super) const MOST_IOS: usize = 64;
-pub(super) const MOST_CELLS: usize = 512;
+pub(crate) const MOST_CELLS: usize = 512;
 pub(super) const MOST_RUNS: usize = 4_096;
-pub(super) const MOST_CELL_BITS: usize = 4_096;
+pub(crate) const MOST_CELL_BITS: usize = 4_096;
 pub(super) const MOST_OUTPUT_BITS: usize = 4_096;
 pub(super) const LONGEST_STRING: usize = 255;
 
@@ -31,7 +31,7 @@ const CELLS_AT: usize = IOS_AT + MOST_IOS * IO_WORDS;
 const RUNS_AT: usize = CELLS_AT + MOST_CELLS * CELL_WORDS;
 
 /// Where the trits of runs begin; those of attributes lie before them.
-pub(super) const RUN_TRITS_AT: usize = MOST_METAS * 256;
+pub(crate) const RUN_TRITS_AT: usize = MOST_METAS * 256;
 
 /// A netlist laid out in words, string bytes and trits.
 #[derive(Clone, Debug, PartialEq, Eq)]
@@ -77,11 +77,11 @@ pub(super) fn io_words(row: usize) -> Range<usize> {
     IOS_AT + IO_WORDS * row..IOS_AT + IO_WORDS * (row + 1)
 }
 
-pub(super) fn cell_words(row: usize) -> Range<usize> {
+pub(crate) fn cell_words(row: usize) -> Range<usize> {
     CELLS_AT + CELL_WORDS * row..CELLS_AT + CELL_WORDS * (row + 1)
 }
 
-pub(super) fn run_words(row: usize) -> Range<usize> {
+pub(crate) fn run_words(row: usize) -> Range<usize> {
     RUNS_AT + RUN_WORDS * row..RUNS_AT + RUN_WORDS * (row + 1)
 }
 
