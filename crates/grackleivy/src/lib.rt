@@ -1,5 +1,9 @@
 // The C library: the functions of the crates below for callers in C and Rust. A text is lent as a pointer and a length; an answer
 // comes back by value, with refusal number 0 where nothing is refused. It promises what the functions below promise.
+use benchlib::Gave;
+use benchlib::bench_evaluate;
+use benchlib::bench_run;
+use benchlib::bench_translate;
 use checking::check_tables;
 use checking::lookup_io;
 use ground::Place;
@@ -26,6 +30,10 @@ ghost use Rattle.netlist.specs.Good.{checkOf, lookupOf};
 ghost use Rattle.reading.specs.Outcome.{readOf};
 ghost use Rattle.printing.specs.Outcome.{printOf};
 ghost use Rattle.naming.specs.Names.{nameOf};
+ghost use Rattle.evaluating.specs.Outcome.{evaluateOf};
+ghost use Rattle.translating.specs.Outcome.{translateOf};
+ghost use Rattle.loadlist.specs.Run.{runOf};
+ghost use Rattle.benchlib.specs.Logic.{after, afterEvaluation, afterTranslation, afterRun};
 ghost use Rattle.grackleivy.specs.Told.{toldOf, told, counted, refusedAt, movedBy, tokensFrom, tokensOf};
 ghost use Rattle.grackleivy.specs.Seen.{toldRead, seen, seenOf};
 ghost use Rattle.grackleivy.specs.Tables.{toldCheck, wroteOf, toldPrint, toldName, filled, printedOf, namedOf, padOf, toldPad};
@@ -316,4 +324,41 @@ pub extern "C" fn grackle_pad(rows: &[u32], strings: &[u8], trits: &[u8], name: 
     ensures { λ r. ⌜ r ≡ toldPad (lookupOf (now (rows .entry)) (now (strings .entry)) (now (trits .entry)) (now (name .entry))) ⌝ }
 {
     tell_pad(lookup_io(rows, strings, trits, name))
+}
+
+// The output bits of the netlist in three lent tables, a byte a bit, for its input bits: refusal 1, 15, 20, 23 or 24.
+#[no_mangle]
+pub extern "C" fn grackle_evaluate(
+    rows: &[u32],
+    strings: &[u8],
+    trits: &[u8],
+    ins: &[u8],
+    outs: &mut [u8],
+    work: &mut [u32],
+) -> Gave
+    ensures { λ r. ⌜ after r (now (outs .exit)) (now (work .exit)) ≡ afterEvaluation (evaluateOf (now (rows .entry)) (now (strings .entry)) (now (trits .entry)) (now (ins .entry)) (now (outs .entry)) (now (work .entry))) ⌝ }
+{
+    bench_evaluate(rows, strings, trits, ins, outs, work)
+}
+
+// The load list of the netlist in three lent tables: refusal 1, 15, 20, 21 or 24.
+#[no_mangle]
+pub extern "C" fn grackle_translate(
+    rows: &[u32],
+    strings: &[u8],
+    trits: &[u8],
+    list: &mut [u8],
+    work: &mut [u32],
+) -> Gave
+    ensures { λ r. ⌜ after r (now (list .exit)) (now (work .exit)) ≡ afterTranslation (translateOf (now (rows .entry)) (now (strings .entry)) (now (trits .entry)) (now (list .entry)) (now (work .entry))) ⌝ }
+{
+    bench_translate(rows, strings, trits, list, work)
+}
+
+// The run of a load list on input bits: refusal 1, 22, 23 or 24.
+#[no_mangle]
+pub extern "C" fn grackle_run(list: &[u8], ins: &[u8], outs: &mut [u8], work: &mut [u8]) -> Gave
+    ensures { λ r. ⌜ after r (now (outs .exit)) (now (work .exit)) ≡ afterRun (runOf (now (list .entry)) (now (ins .entry)) (now (outs .entry)) (now (work .entry))) ⌝ }
+{
+    bench_run(list, ins, outs, work)
 }
