@@ -5,10 +5,12 @@
 mod any;
 mod full;
 mod netlist;
+mod wired;
 
 pub use any::{any_netlist, changed};
 pub use full::{alike_netlist, full_netlist};
 pub use netlist::netlist;
+pub use wired::{any_wired, turned_netlist, wired_netlist};
 
 use netlist::fill_with_comments;
 

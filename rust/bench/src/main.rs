@@ -2,6 +2,7 @@
 
 #![forbid(unsafe_code)]
 
+mod logic;
 mod read;
 mod tables;
 
@@ -75,6 +76,7 @@ fn lines() -> Vec<Line> {
     ];
     lines.extend(read::lines());
     lines.extend(tables::lines());
+    lines.extend(logic::lines());
     lines
 }
 
@@ -123,6 +125,14 @@ fn only(name: &str, kib: usize, calls: u32) {
         "library-print" => (tables::library_print(), bench::full_netlist),
         "reference-print" => (tables::reference_print(), bench::full_netlist),
         "reference-print-own" => (tables::reference_print_kept(), bench::full_netlist),
+        "library-evaluate" => (logic::library_evaluate(), bench::wired_netlist),
+        "reference-evaluate" => (logic::reference_evaluate(), bench::wired_netlist),
+        "library-evaluate-turned" => (logic::library_evaluate(), bench::turned_netlist),
+        "reference-evaluate-turned" => (logic::reference_evaluate(), bench::turned_netlist),
+        "library-translate" => (logic::library_translate(), bench::wired_netlist),
+        "reference-translate" => (logic::reference_translate(), bench::wired_netlist),
+        "library-run" => (logic::library_run(), bench::wired_netlist),
+        "reference-run" => (logic::reference_run(), bench::wired_netlist),
         _ => panic!("no function has the name {name}"),
     };
     timed(&mut work, &text(kib << 10, kib as u64), calls);

@@ -1,11 +1,13 @@
-//! Grackleivy's proved reader, check and printer for Rust programs.
+//! Grackleivy's proved reader, check, printer, evaluator, translator and runner for Rust programs.
 //!
 //! The functions of `libgrackleivy.a` ask nothing of their caller but a pointer and a length that belong together, which a slice
 //! always gives. So the functions here are safe for every slice.
 
+mod logic;
 mod read;
 mod tables;
 
+pub use logic::{evaluate, run, translate, LOGIC_WORK, RUN_WORK};
 pub use read::{read, ROWS, STRINGS, TRITS, WORK};
 pub use tables::{check, name, pad, print, Pad};
 
