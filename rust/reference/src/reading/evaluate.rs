@@ -5,23 +5,22 @@ use super::tables::{cell_words, run_words, RUN_TRITS_AT};
 use super::Tables;
 use crate::{refusal, Refusal};
 
-type Trit = Option<bool>;
+pub(super) type Trit = Option<bool>;
 
-const INPUT: u32 = 1;
-const OUTPUT: u32 = 2;
+pub(super) const INPUT: u32 = 1;
+pub(super) const OUTPUT: u32 = 2;
 
 /// A byte for each output bit of tables that reading has made: 20, 23, or the bits, by document 01's orders.
 pub fn evaluate(tables: &Tables, ins: &[u8]) -> Result<Vec<u8>, Refusal> {
-    let count = tables.rows[2] as usize;
-    let cells: Vec<Cell> = (0..count).map(|row| Cell::new(tables, row)).collect();
-    if (0..count).any(|row| reaches_itself(&cells, row)) {
+    let cells = Cell::all(tables);
+    if ringed(&cells) {
         return Err(refusal(20, 0));
     }
     let asked: usize = cells.iter().filter(|cell| cell.kind == INPUT).map(|cell| cell.width).sum();
     if ins.len() != asked || ins.iter().any(|&byte| byte > 2) {
         return Err(refusal(23, 0));
     }
-    let mut known = Known { cells: &cells, bits: vec![None; count] };
+    let mut known = Known { cells: &cells, bits: vec![None; cells.len()] };
     let mut from = 0;
     for (row, cell) in cells.iter().enumerate().filter(|(_, cell)| cell.kind == INPUT) {
         known.bits[row] = Some(ins[from..from + cell.width].iter().map(|&byte| trit(byte)).collect());
@@ -31,29 +30,33 @@ pub fn evaluate(tables: &Tables, ins: &[u8]) -> Result<Vec<u8>, Refusal> {
     Ok(outputs.flat_map(|cell| known.operand(&cell.operands[0])).map(byte).collect())
 }
 
-fn trit(byte: u8) -> Trit {
+pub(super) fn trit(byte: u8) -> Trit {
     [Some(false), Some(true), None][usize::from(byte)]
 }
 
-fn byte(trit: Trit) -> u8 {
+pub(super) fn byte(trit: Trit) -> u8 {
     trit.map_or(2, u8::from)
 }
 
 /// A bit of an operand: a constant, or a bit of a cell.
 #[derive(Clone, Copy)]
-enum Bit {
+pub(super) enum Bit {
     Constant(Trit),
     Of(usize, usize),
 }
 
-struct Cell {
-    kind: u32,
-    width: usize,
+pub(super) struct Cell {
+    pub(super) kind: u32,
+    pub(super) width: usize,
     /// Bits from 0 up.
-    operands: [Vec<Bit>; 3],
+    pub(super) operands: [Vec<Bit>; 3],
 }
 
 impl Cell {
+    pub(super) fn all(tables: &Tables) -> Vec<Cell> {
+        (0..tables.rows[2] as usize).map(|row| Cell::new(tables, row)).collect()
+    }
+
     fn new(tables: &Tables, row: usize) -> Cell {
         let words = &tables.rows[cell_words(row)];
         let mut first = words[5] as usize;
@@ -66,7 +69,7 @@ impl Cell {
         Cell { kind: words[0], width: words[1] as usize, operands }
     }
 
-    fn asks(&self) -> impl Iterator<Item = usize> + '_ {
+    pub(super) fn asks(&self) -> impl Iterator<Item = usize> + '_ {
         self.operands.iter().flatten().filter_map(|bit| match bit {
             Bit::Of(row, _) => Some(*row),
             Bit::Constant(_) => None,
@@ -84,6 +87,10 @@ fn run_bits(tables: &Tables, run: usize) -> Vec<Bit> {
 }
 
 /// "A ring: a cell reached from itself"
+pub(super) fn ringed(cells: &[Cell]) -> bool {
+    (0..cells.len()).any(|row| reaches_itself(cells, row))
+}
+
 fn reaches_itself(cells: &[Cell], row: usize) -> bool {
     let mut seen = vec![false; cells.len()];
     let mut left: Vec<usize> = cells[row].asks().collect();
@@ -141,22 +148,22 @@ fn value(kind: u32, a: &[Trit], b: &[Trit], c: &[Trit]) -> Vec<Trit> {
     }
 }
 
-fn not(a: Trit) -> Trit {
+pub(super) fn not(a: Trit) -> Trit {
     a.map(|a| !a)
 }
 
-fn and(a: Trit, b: Trit) -> Trit {
+pub(super) fn and(a: Trit, b: Trit) -> Trit {
     if a == Some(false) || b == Some(false) {
         return Some(false);
     }
     Some(a? && b?)
 }
 
-fn or(a: Trit, b: Trit) -> Trit {
+pub(super) fn or(a: Trit, b: Trit) -> Trit {
     not(and(not(a), not(b)))
 }
 
-fn xor(a: Trit, b: Trit) -> Trit {
+pub(super) fn xor(a: Trit, b: Trit) -> Trit {
     Some(a? != b?)
 }
 

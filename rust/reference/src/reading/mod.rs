@@ -10,6 +10,7 @@ mod evaluate;
 #[cfg(test)]
 mod examples;
 mod full_name;
+mod list;
 mod meta;
 mod names;
 mod operands;
@@ -20,6 +21,7 @@ pub use canonical::canonical;
 pub use checking::check;
 pub use evaluate::evaluate;
 pub use full_name::full_name;
+pub use list::{run, translate, Ran};
 pub use printing::{print_by_buffer, print_into};
 pub use tables::{Tables, ROWS, STRINGS, TRITS};
 
