@@ -15,7 +15,8 @@ pub fn tell_refused(r: Refusal) {
     io::print_decimal(STDOUT_FILENO, place.at as u64);
 }
 
-fn hex(b: u8) -> u8
+// The value of a digit 0-9a-f; 0 for any other byte.
+pub fn hex(b: u8) -> u8
     ensures { λ r. ⌜ r ≤ 15 ⌝ }
 {
     if b < 48 {

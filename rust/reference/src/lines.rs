@@ -84,11 +84,7 @@ pub fn answer(text: &[u8], tables: &mut Tables, work: &mut Work) -> String {
         }
         Ok(()) => {
             let rows = &tables.rows;
-            let sums = [
-                sum(rows.iter().copied()),
-                sum(tables.strings.iter().map(|&byte| byte.into())),
-                sum(tables.trits.iter().map(|&trit| trit.into())),
-            ];
+            let sums = [sum(rows.iter().copied()), sum_of(&tables.strings), sum_of(&tables.trits)];
             format!(
                 "{} metadata, {} pads, {} cells; rows {}, strings {}, trits {}",
                 rows[0], rows[1], rows[2], sums[0], sums[1], sums[2]
@@ -108,7 +104,7 @@ pub fn printed(text: &[u8], tables: &mut Tables, work: &mut Work) -> String {
 /// A canonical text as a line, if it has at most 2,000 bytes, else how long it is and a sum over it.
 pub fn told(text: &[u8]) -> String {
     if text.len() > 2_000 {
-        return format!("{} bytes, sum {}", text.len(), sum(text.iter().map(|&byte| byte.into())));
+        return format!("{} bytes, sum {}", text.len(), sum_of(text));
     }
     let tell = |&byte: &u8| match byte {
         b'\n' => "\\n".into(),
@@ -116,6 +112,11 @@ pub fn told(text: &[u8]) -> String {
         _ => char::from(byte).to_string(),
     };
     text.iter().map(tell).collect()
+}
+
+/// The sum that stands for many bytes.
+pub fn sum_of(bytes: &[u8]) -> u64 {
+    sum(bytes.iter().map(|&byte| byte.into()))
 }
 
 /// Each value times its place, counted from 1, added up modulo the largest prime below 2^32.
