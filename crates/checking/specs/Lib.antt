@@ -1,4 +1,3 @@
-pub mod Marks
 pub mod Names
 pub mod Parts
 pub mod Walk

@@ -3,7 +3,6 @@
 // whatever takes tables stands above.
 mod blank;
 pub mod ios;
-mod marks;
 pub mod names;
 pub mod parts;
 

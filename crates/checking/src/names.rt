@@ -1,7 +1,7 @@
 // Names declared twice (rule 9): a name beside those of the rows behind it. The rows are gone through from the last to the first, and each
 // name leaves its mark; only a name whose mark is there already is compared with the names behind it.
-use crate::marks::is_new;
 use checkmeta::rows::word_of;
+use marking::is_new_name;
 ghost use mathlib.Core.Path.{_≡_};
 ghost use mathlib.Core.Bool.{_&&_};
 ghost use Prim.Native.Nat.{_+_, _*_, _-_, _≤_, _<_};
@@ -11,7 +11,7 @@ ghost use Rattle.ground.specs.Regions.{part};
 ghost use Rattle.ground.specs.Text.{same};
 ghost use Rattle.netlist.specs.Rules.{taken, distinct};
 ghost use Rattle.netlist.specs.View.{word};
-ghost use Rattle.checking.specs.Marks.{Marked};
+ghost use Rattle.marking.specs.Marks.{Marked};
 ghost use Rattle.checking.specs.Names.{ioName, cellName, ioNamesIn, cellNamesIn, IosNamed, CellsNamed};
 
 // Whether two strings are the same; those of other lengths are never compared.
@@ -59,13 +59,13 @@ fn io_taken(ios: &[u32], strings: &[u8], from: usize, n: usize, name: &[u8]) -> 
 
 // Whether the name of the I/O row i is taken by a row behind it, whose names have left their marks.
 fn io_again(ios: &[u32], strings: &[u8], i: usize, n: usize, seen: &mut [u8]) -> bool
-    requires { ⌜ (i < n) × IosNamed (now strings) n (now ios) × Marked (now seen) (ioNamesIn (now strings) (n - (i + 1)) (drop ((i + 1) * 3) (now ios))) ⌝ }
-    ensures { λ r. ⌜ (r ≡ taken (ioName (now (strings .entry)) (drop (i * 3) (now (ios .entry)))) (ioNamesIn (now (strings .entry)) (n - (i + 1)) (drop ((i + 1) * 3) (now (ios .entry))))) × Marked (now (seen .exit)) (ioNamesIn (now (strings .entry)) (n - i) (drop (i * 3) (now (ios .entry)))) ⌝ }
+    requires { ⌜ (i < n) × IosNamed (now strings) n (now ios) × Marked 255 (now seen) (ioNamesIn (now strings) (n - (i + 1)) (drop ((i + 1) * 3) (now ios))) ⌝ }
+    ensures { λ r. ⌜ (r ≡ taken (ioName (now (strings .entry)) (drop (i * 3) (now (ios .entry)))) (ioNamesIn (now (strings .entry)) (n - (i + 1)) (drop ((i + 1) * 3) (now (ios .entry))))) × Marked 255 (now (seen .exit)) (ioNamesIn (now (strings .entry)) (n - i) (drop (i * 3) (now (ios .entry)))) ⌝ }
 {
     let row = i * 3;
     let start = word_of(ios, row);
     let end = start + word_of(ios, row + 1);
-    if is_new(seen, &strings[start..end]) {
+    if is_new_name(seen, 255, &strings[start..end]) {
         return false;
     }
     io_taken(ios, strings, i + 1, n, &strings[start..end])
@@ -125,14 +125,14 @@ fn cell_taken(cells: &[u32], strings: &[u8], from: usize, n: usize, kind: u32, n
 
 // Whether the name of the cell row i, where it is of the kind, is taken by a row behind it. Those names have left their marks.
 fn cell_again(cells: &[u32], strings: &[u8], i: usize, n: usize, kind: u32, seen: &mut [u8]) -> bool
-    requires { ⌜ (i < n) × CellsNamed (now strings) n (now cells) × Marked (now seen) (cellNamesIn (now strings) kind (n - (i + 1)) (drop ((i + 1) * 9) (now cells))) ⌝ }
-    ensures { λ r. ⌜ (r ≡ (eqb (word (drop (i * 9) (now (cells .entry))) 0) kind && taken (cellName (now (strings .entry)) (drop (i * 9) (now (cells .entry)))) (cellNamesIn (now (strings .entry)) kind (n - (i + 1)) (drop ((i + 1) * 9) (now (cells .entry)))))) × Marked (now (seen .exit)) (cellNamesIn (now (strings .entry)) kind (n - i) (drop (i * 9) (now (cells .entry)))) ⌝ }
+    requires { ⌜ (i < n) × CellsNamed (now strings) n (now cells) × Marked kind (now seen) (cellNamesIn (now strings) kind (n - (i + 1)) (drop ((i + 1) * 9) (now cells))) ⌝ }
+    ensures { λ r. ⌜ (r ≡ (eqb (word (drop (i * 9) (now (cells .entry))) 0) kind && taken (cellName (now (strings .entry)) (drop (i * 9) (now (cells .entry)))) (cellNamesIn (now (strings .entry)) kind (n - (i + 1)) (drop ((i + 1) * 9) (now (cells .entry)))))) × Marked kind (now (seen .exit)) (cellNamesIn (now (strings .entry)) kind (n - i) (drop (i * 9) (now (cells .entry)))) ⌝ }
 {
     let row = i * 9;
     if cells[row] == kind {
         let start = word_of(cells, row + 2);
         let end = start + word_of(cells, row + 3);
-        if is_new(seen, &strings[start..end]) {
+        if is_new_name(seen, kind, &strings[start..end]) {
             return false;
         }
         return cell_taken(cells, strings, i + 1, n, kind, &strings[start..end]);
@@ -140,7 +140,8 @@ fn cell_again(cells: &[u32], strings: &[u8], i: usize, n: usize, kind: u32, seen
     false
 }
 
-fn cells_marked(cells: &[u32], strings: &[u8], n: usize, kind: u32, seen: &mut [u8]) -> bool
+// Whether no two of the n cells are of the kind and have one name; the map may hold marks already.
+pub fn cells_distinct(cells: &[u32], strings: &[u8], n: usize, kind: u32, seen: &mut [u8]) -> bool
     requires { ⌜ CellsNamed (now strings) n (now cells) × (length (now seen) ≡ 65536) ⌝ }
     ensures { λ r. ⌜ r ≡ distinct (cellNamesIn (now (strings .entry)) kind n (now (cells .entry))) ⌝ }
 {
@@ -152,13 +153,4 @@ fn cells_marked(cells: &[u32], strings: &[u8], n: usize, kind: u32, seen: &mut [
         }
     }
     true
-}
-
-// Whether no two of the n cells are of the kind and have one name.
-pub fn cells_distinct(cells: &[u32], strings: &[u8], n: usize, kind: u32) -> bool
-    requires { ⌜ CellsNamed (now strings) n (now cells) ⌝ }
-    ensures { λ r. ⌜ r ≡ distinct (cellNamesIn (now (strings .entry)) kind n (now (cells .entry))) ⌝ }
-{
-    let mut seen = [0u8; 65536];
-    cells_marked(cells, strings, n, kind, &mut seen)
 }

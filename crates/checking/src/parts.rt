@@ -69,9 +69,10 @@ fn names_distinct(cells: &[u32], strings: &[u8], n: usize) -> bool
     requires { ⌜ CellsNamed (now strings) n (now cells) ⌝ }
     ensures { λ q. ⌜ q ≡ (distinct (cellNamesIn (now (strings .entry)) 1 n (now (cells .entry))) && distinct (cellNamesIn (now (strings .entry)) 2 n (now (cells .entry)))) ⌝ }
 {
+    let mut seen = [0u8; 65536];
     both(
-        cells_distinct(cells, strings, n, 1),
-        cells_distinct(cells, strings, n, 2),
+        cells_distinct(cells, strings, n, 1, &mut seen),
+        cells_distinct(cells, strings, n, 2, &mut seen),
     )
 }
 

@@ -9,7 +9,7 @@ use Rattle.checking.proofs.names.cell_again.Statement.{statement}
 use Rattle.checking.proofs.names.cell_again.Tie as tie
 use Rattle.checking.proofs.names.cell_again.Reads as reads
 use Rattle.checking.proofs.names.cell_again.Lts as lts
-use Rattle.checking.proofs.marks.is_new.Reads as is-new-reads
+use Rattle.marking.proofs.is_new_name.Reads as is-new-name-reads
 use Rattle.checking.proofs.names.cell_taken.Reads as cell-taken-reads
 use Rattle.checkmeta.proofs.rows.word_of.Reads as word-of-reads
 
@@ -46,20 +46,20 @@ add-end : tie.Need-add-end
 add-end c = search needs
 
 -- src/names.rt:135:25
-sub-is-new : tie.Need-sub-is-new
-sub-is-new c = search needs
+sub-is-new-name : tie.Need-sub-is-new-name
+sub-is-new-name c = search needs
 
 -- src/names.rt:135:25
-part-is-new-start : tie.Need-part-is-new-start
-part-is-new-start c = search needs
+part-is-new-name-start : tie.Need-part-is-new-name-start
+part-is-new-name-start c = search needs
 
 -- src/names.rt:135:25
-part-is-new-end : tie.Need-part-is-new-end
-part-is-new-end c = let a = c .before .before .before .before .before .before .before .before .args in let u = row-word (a .i * 9) 2 _ (a .cells .now) (c .before .before .word-of .ensures .0) in let v = row-word (a .i * 9) 3 _ (a .cells .now) (c .before .word-of2 .ensures .0) in omega (arith, u, v, c .before .before .before .before .before .before .before .before .pre .1 .each (a .i) (c .before .before .before .before .before .before .before .before .pre .0))
+part-is-new-name-end : tie.Need-part-is-new-name-end
+part-is-new-name-end c = let a = c .before .before .before .before .before .before .before .before .args in let u = row-word (a .i * 9) 2 _ (a .cells .now) (c .before .before .word-of .ensures .0) in let v = row-word (a .i * 9) 3 _ (a .cells .now) (c .before .word-of2 .ensures .0) in omega (arith, u, v, c .before .before .before .before .before .before .before .before .pre .1 .each (a .i) (c .before .before .before .before .before .before .before .before .pre .0))
 
 -- src/names.rt:135:12
-is-new-requires : tie.Need-is-new-requires
-is-new-requires c κs = search needs
+is-new-name-requires : tie.Need-is-new-name-requires
+is-new-name-requires c κs = search needs
 
 -- src/names.rt:136:13
 same-length : tie.Need-same-length
@@ -67,7 +67,7 @@ same-length c = search needs
 
 -- src/names.rt:136:13
 returns : tie.Need-returns
-returns c = let a = c .before .before .before .before .before .before .before .before .before .before .before .before .before .args in let u = row-word (a .i * 9) 2 _ (a .cells .now) (c .before .before .before .before .before .before .before .word-of .ensures .0) in let v = row-word (a .i * 9) 3 _ (a .cells .now) (c .before .before .before .before .before .before .word-of2 .ensures .0) in cell-new (a .strings .now) (a .kind) (a .n) (a .i) (a .cells .now) (a .seen .now) (c .before .before .before .before .before .before .before .before .before .before .before .before .before .pre .0) (c .before .before .before .before .before .before .before .before .before .before .before .before .before .pre .2) (eq-eqb _ _ (sym (row-head (a .i * 9) _ (a .cells .now) refl) ∙ c .before .before .before .before .before .before .before .before .if1 .taken)) _ _ (name-part (a .strings .now) _ _ _ _ u v) (sym (c .before .before .before .is-new .ensures .0) ∙ c .if2 .taken) (c .before .before .before .is-new .ensures .1)
+returns c = let a = c .before .before .before .before .before .before .before .before .before .before .before .before .before .args in let u = row-word (a .i * 9) 2 _ (a .cells .now) (c .before .before .before .before .before .before .before .word-of .ensures .0) in let v = row-word (a .i * 9) 3 _ (a .cells .now) (c .before .before .before .before .before .before .word-of2 .ensures .0) in cell-new (a .strings .now) (a .kind) (a .n) (a .i) (a .cells .now) (a .seen .now) (c .before .before .before .before .before .before .before .before .before .before .before .before .before .pre .0) (c .before .before .before .before .before .before .before .before .before .before .before .before .before .pre .2) (eq-eqb _ _ (sym (row-head (a .i * 9) _ (a .cells .now) refl) ∙ c .before .before .before .before .before .before .before .before .if1 .taken)) _ _ (name-part (a .strings .now) _ _ _ _ u v) (sym (c .before .before .before .is-new-name .ensures .0) ∙ c .if2 .taken) (c .before .before .before .is-new-name .ensures .1)
 
 -- src/names.rt:138:43
 add-cell-taken : tie.Need-add-cell-taken
@@ -95,7 +95,7 @@ same-length-2 c = search needs
 
 -- src/names.rt:138:9
 returns-2 : tie.Need-returns-2
-returns-2 c = let a = c .before .before .before .before .before .before .before .before .before .before .before .before .before .before .before .args in let u = row-word (a .i * 9) 2 _ (a .cells .now) (c .before .before .before .before .before .before .before .before .before .word-of .ensures .0) in let v = row-word (a .i * 9) 3 _ (a .cells .now) (c .before .before .before .before .before .before .before .before .word-of2 .ensures .0) in cell-seen (a .strings .now) (a .kind) (a .n) (a .i) (a .cells .now) (a .seen .now) (c .before .before .before .before .before .before .before .before .before .before .before .before .before .before .before .pre .0) (c .before .before .before .before .before .before .before .before .before .before .before .before .before .before .before .pre .2) (eq-eqb _ _ (sym (row-head (a .i * 9) _ (a .cells .now) refl) ∙ c .before .before .before .before .before .before .before .before .before .before .if1 .taken)) _ _ _ (name-part (a .strings .now) _ _ _ _ u v) (c .cell-taken .ensures) (c .before .before .before .before .before .is-new .ensures .1)
+returns-2 c = let a = c .before .before .before .before .before .before .before .before .before .before .before .before .before .before .before .args in let u = row-word (a .i * 9) 2 _ (a .cells .now) (c .before .before .before .before .before .before .before .before .before .word-of .ensures .0) in let v = row-word (a .i * 9) 3 _ (a .cells .now) (c .before .before .before .before .before .before .before .before .word-of2 .ensures .0) in cell-seen (a .strings .now) (a .kind) (a .n) (a .i) (a .cells .now) (a .seen .now) (c .before .before .before .before .before .before .before .before .before .before .before .before .before .before .before .pre .0) (c .before .before .before .before .before .before .before .before .before .before .before .before .before .before .before .pre .2) (eq-eqb _ _ (sym (row-head (a .i * 9) _ (a .cells .now) refl) ∙ c .before .before .before .before .before .before .before .before .before .before .if1 .taken)) _ _ _ (name-part (a .strings .now) _ _ _ _ u v) (c .cell-taken .ensures) (c .before .before .before .before .before .is-new-name .ensures .1)
 
 -- src/names.rt:127:1
 returns-3 : tie.Need-returns-3
@@ -113,10 +113,10 @@ cell-again-spec =
     add-word-of-2
     word-of-requires-2
     add-end
-    sub-is-new
-    part-is-new-start
-    part-is-new-end
-    is-new-requires
+    sub-is-new-name
+    part-is-new-name-start
+    part-is-new-name-end
+    is-new-name-requires
     same-length
     returns
     add-cell-taken

@@ -8,7 +8,7 @@ use Rattle.checking.proofs.names.io_again.Statement.{statement}
 use Rattle.checking.proofs.names.io_again.Tie as tie
 use Rattle.checking.proofs.names.io_again.Reads as reads
 use Rattle.checking.proofs.names.io_again.Lts as lts
-use Rattle.checking.proofs.marks.is_new.Reads as is-new-reads
+use Rattle.marking.proofs.is_new_name.Reads as is-new-name-reads
 use Rattle.checking.proofs.names.io_taken.Reads as io-taken-reads
 use Rattle.checkmeta.proofs.rows.word_of.Reads as word-of-reads
 
@@ -33,20 +33,20 @@ add-end : tie.Need-add-end
 add-end c = search needs
 
 -- src/names.rt:68:21
-sub-is-new : tie.Need-sub-is-new
-sub-is-new c = search needs
+sub-is-new-name : tie.Need-sub-is-new-name
+sub-is-new-name c = search needs
 
 -- src/names.rt:68:21
-part-is-new-start : tie.Need-part-is-new-start
-part-is-new-start c = search needs
+part-is-new-name-start : tie.Need-part-is-new-name-start
+part-is-new-name-start c = search needs
 
 -- src/names.rt:68:21
-part-is-new-end : tie.Need-part-is-new-end
-part-is-new-end c = let a = c .before .before .before .before .before .before .args in let u = row-head (a .i * 3) _ (a .ios .now) (c .before .before .word-of .ensures .0) in let v = row-word (a .i * 3) 1 _ (a .ios .now) (c .before .word-of2 .ensures .0) in omega (arith, u, v, c .before .before .before .before .before .before .pre .1 .each (a .i) (c .before .before .before .before .before .before .pre .0))
+part-is-new-name-end : tie.Need-part-is-new-name-end
+part-is-new-name-end c = let a = c .before .before .before .before .before .before .args in let u = row-head (a .i * 3) _ (a .ios .now) (c .before .before .word-of .ensures .0) in let v = row-word (a .i * 3) 1 _ (a .ios .now) (c .before .word-of2 .ensures .0) in omega (arith, u, v, c .before .before .before .before .before .before .pre .1 .each (a .i) (c .before .before .before .before .before .before .pre .0))
 
 -- src/names.rt:68:8
-is-new-requires : tie.Need-is-new-requires
-is-new-requires c κs = search needs
+is-new-name-requires : tie.Need-is-new-name-requires
+is-new-name-requires c κs = search needs
 
 -- src/names.rt:69:9
 same-length : tie.Need-same-length
@@ -54,7 +54,7 @@ same-length c = search needs
 
 -- src/names.rt:69:9
 returns : tie.Need-returns
-returns c = let a = c .before .before .before .before .before .before .before .before .before .before .before .args in let u = row-head (a .i * 3) _ (a .ios .now) (c .before .before .before .before .before .before .before .word-of .ensures .0) in let v = row-word (a .i * 3) 1 _ (a .ios .now) (c .before .before .before .before .before .before .word-of2 .ensures .0) in io-new (a .strings .now) (a .n) (a .i) (a .ios .now) (a .seen .now) (c .before .before .before .before .before .before .before .before .before .before .before .pre .0) (c .before .before .before .before .before .before .before .before .before .before .before .pre .2) _ _ (name-part (a .strings .now) _ _ _ _ u v) (sym (c .before .before .before .is-new .ensures .0) ∙ c .if1 .taken) (c .before .before .before .is-new .ensures .1)
+returns c = let a = c .before .before .before .before .before .before .before .before .before .before .before .args in let u = row-head (a .i * 3) _ (a .ios .now) (c .before .before .before .before .before .before .before .word-of .ensures .0) in let v = row-word (a .i * 3) 1 _ (a .ios .now) (c .before .before .before .before .before .before .word-of2 .ensures .0) in io-new (a .strings .now) (a .n) (a .i) (a .ios .now) (a .seen .now) (c .before .before .before .before .before .before .before .before .before .before .before .pre .0) (c .before .before .before .before .before .before .before .before .before .before .before .pre .2) _ _ (name-part (a .strings .now) _ _ _ _ u v) (sym (c .before .before .before .is-new-name .ensures .0) ∙ c .if1 .taken) (c .before .before .before .is-new-name .ensures .1)
 
 -- src/names.rt:71:28
 add-io-taken : tie.Need-add-io-taken
@@ -82,7 +82,7 @@ same-length-2 c = search needs
 
 -- src/names.rt:61:1
 returns-2 : tie.Need-returns-2
-returns-2 c = let a = c .before .before .before .before .before .before .before .before .before .before .before .before .before .args in let u = row-head (a .i * 3) _ (a .ios .now) (c .before .before .before .before .before .before .before .before .before .word-of .ensures .0) in let v = row-word (a .i * 3) 1 _ (a .ios .now) (c .before .before .before .before .before .before .before .before .word-of2 .ensures .0) in io-seen (a .strings .now) (a .n) (a .i) (a .ios .now) (a .seen .now) (c .before .before .before .before .before .before .before .before .before .before .before .before .before .pre .0) (c .before .before .before .before .before .before .before .before .before .before .before .before .before .pre .2) _ _ _ (name-part (a .strings .now) _ _ _ _ u v) (c .io-taken .ensures) (c .before .before .before .before .before .is-new .ensures .1)
+returns-2 c = let a = c .before .before .before .before .before .before .before .before .before .before .before .before .before .args in let u = row-head (a .i * 3) _ (a .ios .now) (c .before .before .before .before .before .before .before .before .before .word-of .ensures .0) in let v = row-word (a .i * 3) 1 _ (a .ios .now) (c .before .before .before .before .before .before .before .before .word-of2 .ensures .0) in io-seen (a .strings .now) (a .n) (a .i) (a .ios .now) (a .seen .now) (c .before .before .before .before .before .before .before .before .before .before .before .before .before .pre .0) (c .before .before .before .before .before .before .before .before .before .before .before .before .before .pre .2) _ _ _ (name-part (a .strings .now) _ _ _ _ u v) (c .io-taken .ensures) (c .before .before .before .before .before .is-new-name .ensures .1)
 
 pub io-again-spec : {M : Type 1} → statement M
 io-again-spec =
@@ -93,10 +93,10 @@ io-again-spec =
     add-word-of
     word-of-requires-2
     add-end
-    sub-is-new
-    part-is-new-start
-    part-is-new-end
-    is-new-requires
+    sub-is-new-name
+    part-is-new-name-start
+    part-is-new-name-end
+    is-new-name-requires
     same-length
     returns
     add-io-taken

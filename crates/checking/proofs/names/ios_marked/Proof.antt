@@ -4,7 +4,7 @@ use native.Mathlib.Omega.{arith}
 use mathlib.Core.Path.{_≡_, refl, sym, _∙_}
 use lib.ListN.{length, drop}
 use Rattle.netlist.specs.Rules.{distinct}
-use Rattle.checking.specs.Marks.{Marked}
+use Rattle.marking.specs.Marks.{Marked}
 use Rattle.checking.specs.Names.{ioNamesIn}
 use Rattle.checking.proofs.Laws.{io-again, io-once}
 use Rattle.checking.proofs.Marking.{ios-start, ios-back, ios-still, ios-early, ios-first}
@@ -16,7 +16,7 @@ use Rattle.checking.proofs.names.ios_marked.Lts as lts
 use Rattle.checking.proofs.names.io_again.Reads as io-again-reads
 
 abbrev Inv-loop : tie.InvT-loop
-Inv-loop ios strings n seen₀ i₀ seen i = (i ≤ n) × Marked seen (ioNamesIn strings (n - i) (drop (i * 3) ios)) × (distinct (ioNamesIn strings (n - i) (drop (i * 3) ios)) ≡ true)
+Inv-loop ios strings n seen₀ i₀ seen i = (i ≤ n) × Marked 255 seen (ioNamesIn strings (n - i) (drop (i * 3) ios)) × (distinct (ioNamesIn strings (n - i) (drop (i * 3) ios)) ≡ true)
 
 abbrev μ-loop : tie.MeasureT-loop
 μ-loop ios strings n seen₀ i₀ seen i = i

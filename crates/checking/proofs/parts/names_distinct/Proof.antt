@@ -6,22 +6,37 @@ use Rattle.checking.proofs.parts.names_distinct.Lts as lts
 use Rattle.checking.proofs.names.cells_distinct.Reads as cells-distinct-reads
 use Rattle.checkmeta.proofs.fields.both.Reads as both-reads
 
--- src/parts.rt:73:9
+-- src/parts.rt:74:46
+slice-aggregate-cells-distinct : tie.Need-slice-aggregate-cells-distinct
+slice-aggregate-cells-distinct c = search needs
+
+-- src/parts.rt:74:9
 cells-distinct-requires : tie.Need-cells-distinct-requires
 cells-distinct-requires c κs = search needs
 
--- src/parts.rt:74:9
+-- src/parts.rt:75:46
+slice-aggregate-cells-distinct-2 : tie.Need-slice-aggregate-cells-distinct-2
+slice-aggregate-cells-distinct-2 c = search needs
+
+-- src/parts.rt:75:9
 cells-distinct-requires-2 : tie.Need-cells-distinct-requires-2
 cells-distinct-requires-2 c κs = search needs
 
--- src/parts.rt:72:5
+-- src/parts.rt:73:5
 both-requires : tie.Need-both-requires
 both-requires c κs = search needs
 
 -- src/parts.rt:68:1
 returns : tie.Need-returns
-returns c = rw (c .both .ensures, c .before .cells-distinct2 .ensures, c .before .before .cells-distinct .ensures)
+returns c = rw (c .both .ensures, c .before .before .cells-distinct2 .ensures, c .before .before .before .before .before .cells-distinct .ensures)
 
 pub names-distinct-spec : {M : Type 1} → statement M
 names-distinct-spec =
-    tie.close (tie.spec cells-distinct-requires cells-distinct-requires-2 both-requires returns)
+    tie.close
+    (tie.spec
+    slice-aggregate-cells-distinct
+    cells-distinct-requires
+    slice-aggregate-cells-distinct-2
+    cells-distinct-requires-2
+    both-requires
+    returns)

@@ -4,19 +4,19 @@ use native.Mathlib.Omega.{arith}
 use mathlib.Core.Path.{_≡_, refl, sym, _∙_}
 use lib.ListN.{length, drop}
 use Rattle.netlist.specs.Rules.{distinct}
-use Rattle.checking.specs.Marks.{Marked}
+use Rattle.marking.specs.Marks.{Marked}
 use Rattle.checking.specs.Names.{cellNamesIn}
 use Rattle.checking.proofs.Laws.{cell-twice, cell-once}
 use Rattle.checking.proofs.Marking.{cells-start, cells-back, cells-still, cells-early, cells-first}
 use borrow.Author.Needs.{needs}
-use Rattle.checking.proofs.names.cells_marked.Statement.{statement}
-use Rattle.checking.proofs.names.cells_marked.Tie as tie
-use Rattle.checking.proofs.names.cells_marked.Reads as reads
-use Rattle.checking.proofs.names.cells_marked.Lts as lts
+use Rattle.checking.proofs.names.cells_distinct.Statement.{statement}
+use Rattle.checking.proofs.names.cells_distinct.Tie as tie
+use Rattle.checking.proofs.names.cells_distinct.Reads as reads
+use Rattle.checking.proofs.names.cells_distinct.Lts as lts
 use Rattle.checking.proofs.names.cell_again.Reads as cell-again-reads
 
 abbrev Inv-loop : tie.InvT-loop
-Inv-loop cells strings n kind seen₀ i₀ seen i = (i ≤ n) × Marked seen (cellNamesIn strings kind (n - i) (drop (i * 9) cells)) × (distinct (cellNamesIn strings kind (n - i) (drop (i * 9) cells)) ≡ true)
+Inv-loop cells strings n kind seen₀ i₀ seen i = (i ≤ n) × Marked kind seen (cellNamesIn strings kind (n - i) (drop (i * 9) cells)) × (distinct (cellNamesIn strings kind (n - i) (drop (i * 9) cells)) ≡ true)
 
 abbrev μ-loop : tie.MeasureT-loop
 μ-loop cells strings n kind seen₀ i₀ seen i = i
@@ -57,8 +57,8 @@ same-length-2 c = search needs
 returns-2 : tie.Need-returns-2 Inv-loop μ-loop
 returns-2 c = let a = c .before .before .before .before .before .args in let p = c .before .loop in cells-first (a .strings .now) (a .kind) (a .n) (a .cells .now) (p .i) (c .loop-test .left) (p .inv .2)
 
-pub cells-marked-spec : {M : Type 1} → statement M
-cells-marked-spec =
+pub cells-distinct-spec : {M : Type 1} → statement M
+cells-distinct-spec =
     tie.close
     (tie.spec
     Inv-loop
