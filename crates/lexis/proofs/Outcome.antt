@@ -3,16 +3,10 @@ use mathlib.Core.Path.{_≡_}
 use mathlib.Core.List.{List}
 use Prim.Native.Nat.{ℕ}
 use Rattle.ground.proofs.Outcome.{any-two}
-use Rattle.signs.specs.Bytes.{classOf, table}
-use Rattle.lexis.specs.Tokens.{tokenAt, insideAt, linkAt, byteEnd}
+use Rattle.lexis.specs.Tokens.{tokenAt, insideAt, spotAt, linkAt, byteEnd}
 use Rattle.lexis.specs.declared.Link.{Link}
+use Rattle.lexis.specs.declared.Spot.{Spot}
 use Rattle.lexis.specs.declared.Step.{Step}
-
-pub classes-one : (o p : List ℕ) → o ≡ table → p ≡ table → o ≡ p
-classes-one = any-two (λ (n : ℕ). table) 0
-
-pub class-one : (b o p : ℕ) → o ≡ classOf b → p ≡ classOf b → o ≡ p
-class-one b = any-two classOf b
 
 -- with a lent table and without
 pub next-one : (text : List ℕ) (k : ℕ) (o p : Step) → o ≡ tokenAt text k → p ≡ tokenAt text k → o ≡ p
@@ -22,6 +16,9 @@ pub inside-one : (text : List ℕ) (k : ℕ) (o p : Step) → o ≡ insideAt tex
 inside-one text k = any-two (insideAt text) k
 
 -- what is read without a token
+pub spot-one : (text : List ℕ) (k : ℕ) (o p : Spot) → o ≡ spotAt text k → p ≡ spotAt text k → o ≡ p
+spot-one text k = any-two (spotAt text) k
+
 pub link-one : (text : List ℕ) (k : ℕ) (o p : Link) → o ≡ linkAt text k → p ≡ linkAt text k → o ≡ p
 link-one text k = any-two (linkAt text) k
 
