@@ -16,6 +16,7 @@ use Rattle.signs.specs.Pieces.{decoded}
 use Rattle.signs.specs.declared.decode.Meant.{Meant}
 use Rattle.signs.proofs.Strings.{next-meant, raw-next}
 use Rattle.netlist.specs.Rules.{taken, ioNames, namesAs}
+use Rattle.marking.specs.Marks.{markMore, markFrom}
 use Rattle.saying.specs.Notes.{IoNote, CellNote, ioNote, cellNote, iosSaid, cellsSaid, Spells, SpellIos, SpellCells, more}
 use Rattle.asking.specs.Namesakes.{sameRaw, someRow, namesake, ioNamesake, cellNamesake, Sized, IosNoted, CellsNoted, Passes}
 use Rattle.asking.proofs.RowLaws.{notes-room, behind-note, some-step, row-miss, row-first}
@@ -36,7 +37,7 @@ pub record Raw (text : List ℕ) (i j : ℕ) : Type 0 where
   pub second : decoded text j ≡ getD text j 0 ∷ decoded text (j + 1)
   pub alike : getD text i 0 ≡ getD text j 0
 
-raw-behind : (text : List ℕ) (i : ℕ) → 0 < length (decoded text i) → (getD text i 0 ≡ 92 → ⊥) → decoded text i ≡ getD text i 0 ∷ decoded text (i + 1)
+pub raw-behind : (text : List ℕ) (i : ℕ) → 0 < length (decoded text i) → (getD text i 0 ≡ 92 → ⊥) → decoded text i ≡ getD text i 0 ∷ decoded text (i + 1)
 raw-behind text i h n = next-meant text i h (record { byte = getD text i 0; end = i + 1 }) (raw-next text i h n)
 
 pub same-raw : (text : List ℕ) (i j : ℕ) → 0 < length (decoded text i) → 0 < length (decoded text j) → sameRaw text i j ≡ true → Raw text i j
@@ -54,6 +55,16 @@ same-none (x ∷ a) b p q = absurd (omega arith)
 
 pub tail-length : (n : ℕ) (a s : List ℕ) (x : ℕ) → a ≡ x ∷ s → n ≡ length a → n - 1 ≡ length s
 tail-length n a s x p e = omega (arith, e ∙ ap length p)
+
+-- the mark of a string with a first byte, and of one without bytes
+pub mark-first : (a s : List ℕ) (mark mark′ x : ℕ) → a ≡ x ∷ s → mark′ ≡ markMore mark x → markFrom mark′ s ≡ markFrom mark a
+unfolding markFrom
+mark-first a s mark mark′ x p e = rw (p, e)
+
+pub mark-none : (a : List ℕ) (mark : ℕ) → length a ≡ 0 → mark ≡ markFrom mark a
+unfolding markFrom
+mark-none [] mark p = refl
+mark-none (x ∷ a) mark p = absurd (omega arith)
 
 -- strings of two sizes are never the same
 pub same-sizes : (a b : List ℕ) → (length b ≡ length a → ⊥) → same a b ≡ false

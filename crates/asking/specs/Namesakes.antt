@@ -53,6 +53,13 @@ pub record CellsNoted (text cells : List ℕ) (n : ℕ) : Type 0 where
   pub count : n ≡ length notes
   pub names : SpellCells text notes
 
+-- a name that none of the first n rows has, where it is called fresh
+pub record FreshIo (text ios : List ℕ) (n from size : ℕ) (fresh : Bool) : Type 0 where
+  pub none : fresh ≡ true → someRow 3 (ioNamesake text from size) n ios ≡ false
+
+pub record FreshCell (text cells : List ℕ) (n kind from size : ℕ) (fresh : Bool) : Type 0 where
+  pub none : fresh ≡ true → someRow 9 (cellNamesake text kind from size) n cells ≡ false
+
 -- no cell of the kind stands in the rows between: those from the row r on find what those from `row` on find
 pub record Passes (kind n row r : ℕ) (cells : List ℕ) : Type 0 where
   pub finds : (text : List ℕ) (from size : ℕ) → someRow 9 (cellNamesake text kind from size) (n - r) (drop (r * 9) cells) ≡ someRow 9 (cellNamesake text kind from size) (n - row) (drop (row * 9) cells)

@@ -1,4 +1,4 @@
-// Names declared twice: a name of the text beside those of the noted rows.
+// Names declared twice: a name of the text beside those of the noted rows; and its mark, which tells most names apart.
 ghost use mathlib.Core.Path.{_≡_};
 ghost use mathlib.Core.List.{List};
 ghost use Prim.Native.Nat.{_+_, _*_, _<_, _≤_};
@@ -8,9 +8,12 @@ ghost use Rattle.ground.specs.Regions.{pad};
 ghost use Rattle.ground.specs.Text.{same};
 ghost use Rattle.signs.specs.Pieces.{decoded};
 ghost use Rattle.netlist.specs.Rules.{taken, ioNames, namesAs};
+ghost use Rattle.marking.specs.Marks.{markOf};
 ghost use Rattle.saying.specs.Notes.{IoNote, CellNote, ioNote, cellNote, iosSaid, cellsSaid, SpellIos, SpellCells};
-ghost use Rattle.asking.specs.Namesakes.{sameRaw, namesake, ioNamesake, cellNamesake, Sized, IosNoted, CellsNoted, Passes};
+ghost use Rattle.asking.specs.Namesakes.{sameRaw, namesake, ioNamesake, cellNamesake, Sized, IosNoted, CellsNoted, FreshIo, FreshCell, Passes};
 use crate::word_at;
+use marking::mark_kind;
+use marking::mark_more;
 use signs::decode::next_byte;
 
 // Whether two places of the text hold the same byte, one that means itself.
@@ -77,7 +80,7 @@ fn io_named(text: &[u8], ios: &[u32], i: usize, from: usize, size: usize) -> boo
 }
 
 // Whether one of the first n noted I/O rows has the name of `size` bytes that the text spells from the place on.
-pub fn io_taken(text: &[u8], ios: &[u32], n: usize, from: usize, size: usize) -> bool
+fn io_found(text: &[u8], ios: &[u32], n: usize, from: usize, size: usize) -> bool
     requires { ⌜ IosNoted (now text) (now ios) n × (size ≡ length (decoded (now text) from)) ⌝ }
     ensures { λ r. ⌜ ((ns : List IoNote) → now (ios .entry) ≡ pad 192 (joined ioNote ns) → n ≡ length ns → SpellIos (now (text .entry)) ns → r ≡ taken (decoded (now (text .entry)) from) (ioNames (iosSaid ns))) ⌝ }
 {
@@ -89,6 +92,17 @@ pub fn io_taken(text: &[u8], ios: &[u32], n: usize, from: usize, size: usize) ->
         i += 1;
     }
     false
+}
+
+// The same of a name that may be known to be fresh, as its mark tells: then no row is looked at.
+pub fn io_taken(text: &[u8], ios: &[u32], n: usize, from: usize, size: usize, fresh: bool) -> bool
+    requires { ⌜ IosNoted (now text) (now ios) n × (size ≡ length (decoded (now text) from)) × FreshIo (now text) (now ios) n from size fresh ⌝ }
+    ensures { λ r. ⌜ ((ns : List IoNote) → now (ios .entry) ≡ pad 192 (joined ioNote ns) → n ≡ length ns → SpellIos (now (text .entry)) ns → r ≡ taken (decoded (now (text .entry)) from) (ioNames (iosSaid ns))) ⌝ }
+{
+    if fresh {
+        return false;
+    }
+    io_found(text, ios, n, from, size)
 }
 
 fn cell_named(text: &[u8], cells: &[u32], i: usize, kind: u8, from: usize, size: usize) -> bool
@@ -123,7 +137,7 @@ fn next_of_kind(cells: &[u32], row: usize, n: usize, kind: u8) -> usize
 }
 
 // Whether one of the first n noted cells is of the kind and has the name.
-pub fn cell_taken(text: &[u8], cells: &[u32], n: usize, kind: u8, from: usize, size: usize) -> bool
+fn cell_found(text: &[u8], cells: &[u32], n: usize, kind: u8, from: usize, size: usize) -> bool
     requires { ⌜ CellsNoted (now text) (now cells) n × (size ≡ length (decoded (now text) from)) ⌝ }
     ensures { λ r. ⌜ ((ns : List CellNote) → now (cells .entry) ≡ pad 4608 (joined cellNote ns) → n ≡ length ns → SpellCells (now (text .entry)) ns → r ≡ taken (decoded (now (text .entry)) from) (namesAs kind (cellsSaid ns))) ⌝ }
 {
@@ -135,4 +149,47 @@ pub fn cell_taken(text: &[u8], cells: &[u32], n: usize, kind: u8, from: usize, s
         i = next_of_kind(cells, i + 1, n, kind);
     }
     false
+}
+
+// The same of a name that may be known to be fresh among the cells of its kind.
+pub fn cell_taken(
+    text: &[u8],
+    cells: &[u32],
+    n: usize,
+    kind: u8,
+    from: usize,
+    size: usize,
+    fresh: bool,
+) -> bool
+    requires { ⌜ CellsNoted (now text) (now cells) n × (size ≡ length (decoded (now text) from)) × FreshCell (now text) (now cells) n kind from size fresh ⌝ }
+    ensures { λ r. ⌜ ((ns : List CellNote) → now (cells .entry) ≡ pad 4608 (joined cellNote ns) → n ≡ length ns → SpellCells (now (text .entry)) ns → r ≡ taken (decoded (now (text .entry)) from) (namesAs kind (cellsSaid ns))) ⌝ }
+{
+    if fresh {
+        return false;
+    }
+    cell_found(text, cells, n, kind, from, size)
+}
+
+// The mark of the name of `size` bytes that the text spells from the place on. Most bytes mean themselves.
+pub fn name_mark(text: &[u8], kind: u32, from: usize, size: usize) -> u32
+    requires { ⌜ size ≡ length (decoded (now text) from) ⌝ }
+    ensures { λ r. ⌜ r ≡ markOf kind (decoded (now (text .entry)) from) ⌝ }
+{
+    let mut mark = mark_kind(kind);
+    let mut left = size;
+    let mut i = from;
+    while 0 < left {
+        let b = text[i];
+        if b != 92 {
+            mark = mark_more(mark, b);
+            i += 1;
+            left -= 1;
+            continue;
+        }
+        let x = next_byte(text, i);
+        mark = mark_more(mark, x.byte);
+        i = x.end;
+        left -= 1;
+    }
+    mark
 }

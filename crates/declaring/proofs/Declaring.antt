@@ -39,7 +39,9 @@ use Rattle.noting.specs.declared.Tally.{Tally}
 use Rattle.resolving.specs.Resolving.{isDeclared}
 use Rattle.resolving.proofs.Declared.{every-append, both-resolved, operand-declared}
 use Rattle.declaring.specs.Reading.{Declarations, all, stopped, declarationsFrom}
-use Rattle.declaring.specs.Going.{noTally, sortOf, Knows, NotesOne, TookOf, Took, Went, TakenOf, TakesOne, Blank, Whole, AllNoted}
+use Rattle.declaring.specs.Fresh.{NamesMarked, Freshens}
+use Rattle.declaring.proofs.Freshness.{nothing-marked}
+use Rattle.declaring.specs.Going.{noTally, sortOf, Knows, NotesOne, TookOf, Took, NotedMarked, Went, TakenOf, TakesOne, Blank, Whole, AllNoted}
 use Rattle.noting.specs.Noted.{NotedSome, After}
 use Rattle.noting.specs.declared.Noting.{Noting}
 use Rattle.noting.specs.declared.Noting.the-variants as noting
@@ -203,40 +205,42 @@ module _ {text : List ℕ} {d : Declared} {n : Tally} {rows bits work : List ℕ
   pub one-more : (m : Tally) → v ≡ noting.More m → Took text d reader n rows bits work (next.Went m reader) rows′ bits′ work′
   one-more m e = record { after = λ so h. let a = subst (λ (x : Noting). After text so d x rows′ bits′ work′) e (o .after so h) in (refl, a .0, a .1) }
 
-next-of : (text : List ℕ) (k : ℕ) (n : Tally) (d : Declared) (q : Reader) → formAt text k ≡ form.Took d q → (so : Sofar) (v : Next) (rows bits work : List ℕ) → TookOf text so d q v rows bits work → TakenOf text so k n v rows bits work
-next-of text k n d q e so (next.Stopped g) rows bits work a = rule-stops text k so d q e g a
-next-of text k n d q e so next.Ended rows bits work a = absurd (omega arith)
-next-of text k n d q e so (next.Went m r) rows bits work a = record {
+next-of : (text : List ℕ) (k : ℕ) (n : Tally) (d : Declared) (q : Reader) → formAt text k ≡ form.Took d q → (so : Sofar) (v : Next) (rows bits work seen : List ℕ) → NamesMarked seen (added so (d .index) (saidBy text so (d .decl))) → TookOf text so d q v rows bits work → TakenOf text so k n v rows bits work seen
+next-of text k n d q e so (next.Stopped g) rows bits work seen s a = rule-stops text k so d q e g a
+next-of text k n d q e so next.Ended rows bits work seen s a = absurd (omega arith)
+next-of text k n d q e so (next.Went m r) rows bits work seen s a = record {
   more = added so (d .index) (saidBy text so (d .decl));
   on = λ f. goes-on text k so d q e (a .1) f ∙ ap (λ (x : Reader). declarationsFrom f text (x .next .at) (added so (d .index) (saidBy text so (d .decl)))) (sym (a .0));
   noted = a .2;
+  marked = s;
   knows = decl-knows text so (d .index) (d .decl);
 }
 
-module _ {text : List ℕ} {k : ℕ} {n : Tally} {rows bits work : List ℕ} where
-  pub next-refused : (g : Refusal) → formAt text k ≡ form.Refused g → TakesOne text k n rows bits work (next.Stopped g) rows bits work
-  next-refused g e = record { after = λ so h. form-stops text k so g e }
+module _ {text : List ℕ} {k : ℕ} {n : Tally} {rows bits work seen : List ℕ} where
+  pub next-refused : (g : Refusal) → formAt text k ≡ form.Refused g → TakesOne text k n rows bits work seen (next.Stopped g) rows bits work seen
+  next-refused g e = record { after = λ so h m. form-stops text k so g e }
 
-  pub next-ended : formAt text k ≡ form.End → TakesOne text k n rows bits work next.Ended rows bits work
-  next-ended e = record { after = λ so h. (form-ends text k so e, h) }
+  pub next-ended : formAt text k ≡ form.End → TakesOne text k n rows bits work seen next.Ended rows bits work seen
+  next-ended e = record { after = λ so h m. (form-ends text k so e, h) }
 
-  pub next-took : {d : Declared} {q : Reader} {v : Next} {rows′ bits′ work′ : List ℕ} → formAt text k ≡ form.Took d q → Took text d q n rows bits work v rows′ bits′ work′ → TakesOne text k n rows bits work v rows′ bits′ work′
-  next-took {d} {q} {v} {rows′} {bits′} {work′} e o = record { after = λ so h. next-of text k n d q e so v rows′ bits′ work′ (o .after so h) }
+  pub next-took : {d : Declared} {q : Reader} {v : Next} {fresh : Bool} {rows′ bits′ work′ seen′ : List ℕ} → formAt text k ≡ form.Took d q → Freshens text d seen fresh seen′ → Took text d q n rows bits work v rows′ bits′ work′ → TakesOne text k n rows bits work seen v rows′ bits′ work′ seen′
+  next-took {d} {q} {v} {fresh} {rows′} {bits′} {work′} {seen′} e f o = record { after = λ so h m. next-of text k n d q e so v rows′ bits′ work′ seen′ (f .after so m .1) (o .after so h) }
 
 -- THE LOOP: the rest of the text gives what the whole gives
-pub record Going (text : List ℕ) (left k : ℕ) (n : Tally) (rows bits work : List ℕ) : Type 0 where
+pub record Going (text : List ℕ) (left k : ℕ) (n : Tally) (rows bits work seen : List ℕ) : Type 0 where
   pub so : Sofar
   pub noted : Noted text so n rows bits work
+  pub marked : NamesMarked seen so
   pub knows : Knows so
   pub rest : declarationsFrom left text k so ≡ declarationsFrom (suc (length text)) text 0 nothing
 
-pub go-start : (text rows bits work : List ℕ) (n : Tally) → n ≡ noTally → Blank rows bits work → Going text (length text + 1) 0 n rows bits work
-go-start text rows bits work n e z =
-    rw e (record { so = nothing; noted = noted-nothing text rows bits work z; knows = nothing-knows; rest = ap (λ (f : ℕ). declarationsFrom f text 0 nothing) (add-one (length text)) })
+pub go-start : (text rows bits work seen : List ℕ) (n : Tally) → n ≡ noTally → Blank rows bits work → length seen ≡ 65536 → Going text (length text + 1) 0 n rows bits work seen
+go-start text rows bits work seen n e z l =
+    rw e (record { so = nothing; noted = noted-nothing text rows bits work z; marked = nothing-marked seen l; knows = nothing-knows; rest = ap (λ (f : ℕ). declarationsFrom f text 0 nothing) (add-one (length text)) })
 
-module _ {text : List ℕ} {left k : ℕ} {n : Tally} {rows bits work : List ℕ} (w : Going text left k n rows bits work) where
-  pub go-some : NotedSome text n rows bits work
-  go-some = record { so = w .so; noted = w .noted }
+module _ {text : List ℕ} {left k : ℕ} {n : Tally} {rows bits work seen : List ℕ} (w : Going text left k n rows bits work seen) where
+  pub go-some : NotedMarked text n rows bits work seen
+  go-some = record { so = w .so; noted = w .noted; marked = w .marked }
 
   pub go-out : left ≤ 0 → AllNoted text (told.All n) rows bits work
   unfolding declarationsFrom
@@ -244,9 +248,9 @@ module _ {text : List ℕ} {left k : ℕ} {n : Tally} {rows bits work : List ℕ
       let z : left ≡ 0 = omega arith in
       record { after = record { so = w .so; is = sym (w .rest) ∙ ap (λ (f : ℕ). declarationsFrom f text k (w .so)) z; noted = w .noted; knows = w .knows } }
 
-  module _ {v : Next} {rows′ bits′ work′ : List ℕ} (h : 0 < left) (o : TakesOne text k n rows bits work v rows′ bits′ work′) where
-    from : (v′ : Next) → v ≡ v′ → TakenOf text (w .so) k n v′ rows′ bits′ work′
-    from v′ e = subst (λ (x : Next). TakenOf text (w .so) k n x rows′ bits′ work′) e (o .after (w .so) (w .noted))
+  module _ {v : Next} {rows′ bits′ work′ seen′ : List ℕ} (h : 0 < left) (o : TakesOne text k n rows bits work seen v rows′ bits′ work′ seen′) where
+    from : (v′ : Next) → v ≡ v′ → TakenOf text (w .so) k n v′ rows′ bits′ work′ seen′
+    from v′ e = subst (λ (x : Next). TakenOf text (w .so) k n x rows′ bits′ work′ seen′) e (o .after (w .so) (w .noted) (w .marked))
 
     again : declarationsFrom (suc (left - 1)) text k (w .so) ≡ declarationsFrom (suc (length text)) text 0 nothing
     again = let z : suc (left - 1) ≡ left = omega arith in ap (λ (f : ℕ). declarationsFrom f text k (w .so)) z ∙ w .rest
@@ -257,7 +261,7 @@ module _ {text : List ℕ} {left k : ℕ} {n : Tally} {rows bits work : List ℕ
     pub go-ended : v ≡ next.Ended → AllNoted text (told.All n) rows′ bits′ work′
     go-ended e = let a = from next.Ended e in record { after = record { so = w .so; is = sym again ∙ a .0 (left - 1); noted = a .1; knows = w .knows } }
 
-    pub go-more : (m : Tally) (r : Reader) → v ≡ next.Went m r → Going text (left - 1) (r .next .at) m rows′ bits′ work′
+    pub go-more : (m : Tally) (r : Reader) → v ≡ next.Went m r → Going text (left - 1) (r .next .at) m rows′ bits′ work′ seen′
     go-more m r e =
         let a = from (next.Went m r) e in
-        record { so = a .more; noted = a .noted; knows = a .knows (w .knows); rest = sym (a .on (left - 1)) ∙ again }
+        record { so = a .more; noted = a .noted; marked = a .marked; knows = a .knows (w .knows); rest = sym (a .on (left - 1)) ∙ again }

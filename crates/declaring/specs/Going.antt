@@ -18,6 +18,7 @@ use Rattle.noting.specs.Noted.{Noted, After}
 use Rattle.noting.specs.declared.Tally.{Tally}
 use Rattle.noting.specs.declared.Noting.{Noting}
 use Rattle.resolving.specs.Resolving.{isDeclared}
+use Rattle.declaring.specs.Fresh.{NamesMarked}
 use Rattle.declaring.specs.Reading.{Declarations, all, stopped, declarationsFrom}
 use Rattle.declaring.specs.declared.notes.Sort.{Sort}
 use Rattle.declaring.specs.declared.notes.Sort.the-variants as sort
@@ -56,20 +57,27 @@ TookOf text so d reader (next.Went n r) rows bits work =
 pub record Took (text : List ℕ) (d : Declared) (reader : Reader) (n : Tally) (rows bits work : List ℕ) (r : Next) (rows′ bits′ work′ : List ℕ) : Type 0 where
   pub after : (so : Sofar) → Noted text so n rows bits work → TookOf text so d reader r rows′ bits′ work′
 
+-- notes of something said, whose names have left their marks
+pub record NotedMarked (text : List ℕ) (n : Tally) (rows bits work seen : List ℕ) : Type 0 where
+  pub so : Sofar
+  pub noted : Noted text so n rows bits work
+  pub marked : NamesMarked seen so
+
 -- one declaration more: the rest of the text gives what the whole gives
-pub record Went (text : List ℕ) (so : Sofar) (k j : ℕ) (n : Tally) (rows bits work : List ℕ) : Type 0 where
+pub record Went (text : List ℕ) (so : Sofar) (k j : ℕ) (n : Tally) (rows bits work seen : List ℕ) : Type 0 where
   pub more : Sofar
   pub on : (f : ℕ) → declarationsFrom (suc f) text k so ≡ declarationsFrom f text j more
   pub noted : Noted text more n rows bits work
+  pub marked : NamesMarked seen more
   pub knows : Knows so → Knows more
 
-abbrev pub TakenOf : List ℕ → Sofar → ℕ → Tally → Next → List ℕ → List ℕ → List ℕ → Type 0
-TakenOf text so k n (next.Stopped g) rows bits work = (f : ℕ) → declarationsFrom (suc f) text k so ≡ stopped g
-TakenOf text so k n next.Ended rows bits work = ((f : ℕ) → declarationsFrom (suc f) text k so ≡ all so) × Noted text so n rows bits work
-TakenOf text so k n (next.Went m r) rows bits work = Went text so k (r .next .at) m rows bits work
+abbrev pub TakenOf : List ℕ → Sofar → ℕ → Tally → Next → List ℕ → List ℕ → List ℕ → List ℕ → Type 0
+TakenOf text so k n (next.Stopped g) rows bits work seen = (f : ℕ) → declarationsFrom (suc f) text k so ≡ stopped g
+TakenOf text so k n next.Ended rows bits work seen = ((f : ℕ) → declarationsFrom (suc f) text k so ≡ all so) × Noted text so n rows bits work
+TakenOf text so k n (next.Went m r) rows bits work seen = Went text so k (r .next .at) m rows bits work seen
 
-pub record TakesOne (text : List ℕ) (k : ℕ) (n : Tally) (rows bits work : List ℕ) (r : Next) (rows′ bits′ work′ : List ℕ) : Type 0 where
-  pub after : (so : Sofar) → Noted text so n rows bits work → TakenOf text so k n r rows′ bits′ work′
+pub record TakesOne (text : List ℕ) (k : ℕ) (n : Tally) (rows bits work seen : List ℕ) (r : Next) (rows′ bits′ work′ seen′ : List ℕ) : Type 0 where
+  pub after : (so : Sofar) → Noted text so n rows bits work → NamesMarked seen so → TakenOf text so k n r rows′ bits′ work′ seen′
 
 -- nothing noted yet
 pub record Blank (words trits room : List ℕ) : Type 0 where

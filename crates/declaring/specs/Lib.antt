@@ -1,2 +1,3 @@
 pub mod Reading
+pub mod Fresh
 pub mod Going

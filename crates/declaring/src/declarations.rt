@@ -1,4 +1,5 @@
 // The declarations of a text, one after the other, each noted in the tables.
+use crate::fresh::is_fresh;
 use crate::notes::note;
 use form::Declared;
 use form::Form;
@@ -14,7 +15,8 @@ ghost use lib.ListN.{length};
 ghost use Rattle.signs.specs.Bytes.{table};
 ghost use Rattle.noting.specs.Noted.{NotedSome};
 ghost use Rattle.noting.specs.Formed.{Formed};
-ghost use Rattle.declaring.specs.Going.{noTally, Took, TakesOne, Blank, AllNoted};
+ghost use Rattle.declaring.specs.Fresh.{FreshDecl};
+ghost use Rattle.declaring.specs.Going.{noTally, Took, NotedMarked, TakesOne, Blank, AllNoted};
 
 // Where the next declaration leaves the reader: one more is noted, none is left, or a refusal.
 pub enum Next {
@@ -47,7 +49,7 @@ fn no_tally() -> Tally
     }
 }
 
-// A declaration that the form took.
+// A declaration that the form took, whose name may be known to be fresh.
 fn take_one(
     t: &[u8; 256],
     text: &[u8],
@@ -57,17 +59,18 @@ fn take_one(
     bits: &mut [u8],
     work: &mut [u32],
     n: Tally,
+    fresh: bool,
 ) -> Next
-    requires { ⌜ (now t ≡ table) × (length (now text) ≤ 65536) × NotedSome (now text) n (now rows) (now bits) (now work) × Formed (now text) d ⌝ }
+    requires { ⌜ (now t ≡ table) × (length (now text) ≤ 65536) × NotedSome (now text) n (now rows) (now bits) (now work) × Formed (now text) d × FreshDecl (now text) (now rows) n (d .decl) fresh ⌝ }
     ensures { λ r. ⌜ Took (now (text .entry)) d reader n (now (rows .entry)) (now (bits .entry)) (now (work .entry)) r (now (rows .exit)) (now (bits .exit)) (now (work .exit)) ⌝ }
 {
-    match note(t, text, d, rows, bits, work, n) {
+    match note(t, text, d, rows, bits, work, n, fresh) {
         Noting::Refused(g) => Next::Stopped(g),
         Noting::More(m) => Next::Went(m, reader),
     }
 }
 
-// The declaration from the reader's place on.
+// The declaration from the reader's place on; a name that it brings leaves its mark.
 fn take_next(
     t: &[u8; 256],
     text: &[u8],
@@ -75,26 +78,32 @@ fn take_next(
     rows: &mut [u32],
     bits: &mut [u8],
     work: &mut [u32],
+    seen: &mut [u8],
     n: Tally,
 ) -> Next
-    requires { ⌜ (now t ≡ table) × (length (now text) ≤ 65536) × NotedSome (now text) n (now rows) (now bits) (now work) ⌝ }
-    ensures { λ r. ⌜ TakesOne (now (text .entry)) (reader .next .at) n (now (rows .entry)) (now (bits .entry)) (now (work .entry)) r (now (rows .exit)) (now (bits .exit)) (now (work .exit)) ⌝ }
+    requires { ⌜ (now t ≡ table) × (length (now text) ≤ 65536) × NotedMarked (now text) n (now rows) (now bits) (now work) (now seen) ⌝ }
+    ensures { λ r. ⌜ TakesOne (now (text .entry)) (reader .next .at) n (now (rows .entry)) (now (bits .entry)) (now (work .entry)) (now (seen .entry)) r (now (rows .exit)) (now (bits .exit)) (now (work .exit)) (now (seen .exit)) ⌝ }
 {
     match declaration_with(t, text, reader) {
         Form::Refused(g) => Next::Stopped(g),
         Form::End => Next::Ended,
-        Form::Took(d, r) => take_one(t, text, d, r, rows, bits, work, n),
+        Form::Took(d, r) => {
+            let fresh = is_fresh(text, d, seen);
+            take_one(t, text, d, r, rows, bits, work, n, fresh)
+        }
     }
 }
 
-pub fn declarations(
+// All declarations, with a map for the marks of their names.
+fn declare_all(
     t: &[u8; 256],
     text: &[u8],
     rows: &mut [u32],
     bits: &mut [u8],
     work: &mut [u32],
+    seen: &mut [u8],
 ) -> Told
-    requires { ⌜ (now t ≡ table) × (length (now text) ≤ 65536) × Blank (now rows) (now bits) (now work) ⌝ }
+    requires { ⌜ (now t ≡ table) × (length (now text) ≤ 65536) × Blank (now rows) (now bits) (now work) × (length (now seen) ≡ 65536) ⌝ }
     ensures { λ r. ⌜ AllNoted (now (text .entry)) r (now (rows .exit)) (now (bits .exit)) (now (work .exit)) ⌝ }
 {
     let mut n = no_tally();
@@ -103,7 +112,7 @@ pub fn declarations(
     };
     let mut left = text.len() + 1;
     while 0 < left {
-        match take_next(t, text, reader, rows, bits, work, n) {
+        match take_next(t, text, reader, rows, bits, work, seen, n) {
             Next::Stopped(g) => {
                 return Told::Stopped(g);
             }
@@ -118,4 +127,18 @@ pub fn declarations(
         left -= 1;
     }
     Told::All(n)
+}
+
+pub fn declarations(
+    t: &[u8; 256],
+    text: &[u8],
+    rows: &mut [u32],
+    bits: &mut [u8],
+    work: &mut [u32],
+) -> Told
+    requires { ⌜ (now t ≡ table) × (length (now text) ≤ 65536) × Blank (now rows) (now bits) (now work) ⌝ }
+    ensures { λ r. ⌜ AllNoted (now (text .entry)) r (now (rows .exit)) (now (bits .exit)) (now (work .exit)) ⌝ }
+{
+    let mut seen = [0u8; 65536];
+    declare_all(t, text, rows, bits, work, &mut seen)
 }

@@ -16,8 +16,8 @@ ghost use lib.Seq.{sets};
 ghost use Rattle.netlist.specs.Netlist.{Io, Netlist};
 ghost use Rattle.netlist.specs.Rules.{roomy};
 ghost use Rattle.saying.specs.Rules.{Sofar};
-ghost use Rattle.asking.specs.Namesakes.{IosNoted};
-ghost use Rattle.noting.specs.Noted.{IosHeld, Tallied, Noted, NotedSome, After};
+ghost use Rattle.asking.specs.Namesakes.{IosNoted, FreshIo};
+ghost use Rattle.noting.specs.Noted.{iosIn, IosHeld, Tallied, Noted, NotedSome, After};
 ghost use Rattle.noting.specs.Formed.{StrIn};
 ghost use Rattle.noting.specs.Rulings.{rulingOf, ioMore, ioIn, ioLimits, ioRules, ioDeclared, ioTally, IoRoom, SomeNoted};
 
@@ -53,14 +53,22 @@ fn io_limits(place: Place, name: Str, width: u32, n: Tally) -> Ruling
     refuse(12, place)
 }
 
-// Rules 9 to 13 for an I/O declaration.
-fn io_ruled(text: &[u8], place: Place, name: Str, width: u32, ios: &[u32], n: Tally) -> Ruling
-    requires { ⌜ (n .strings ≤ 16384) × IosNoted (now text) (now ios) (n .ios) × StrIn (now text) name ⌝ }
+// Rules 9 to 13 for an I/O declaration, whose name may be known to be fresh.
+fn io_ruled(
+    text: &[u8],
+    place: Place,
+    name: Str,
+    width: u32,
+    ios: &[u32],
+    n: Tally,
+    fresh: bool,
+) -> Ruling
+    requires { ⌜ (n .strings ≤ 16384) × IosNoted (now text) (now ios) (n .ios) × StrIn (now text) name × FreshIo (now text) (now ios) (n .ios) (name .from) (name .size) fresh ⌝ }
     ensures { λ r. ⌜ ((N : Netlist) → IosHeld (now (text .entry)) (N .ios) (now (ios .entry)) → Tallied N n → r ≡ rulingOf (ioRules N (ioIn (now (text .entry)) name width) place)) ⌝ }
 {
     let from = name.from;
     let size = name.size;
-    if io_taken(text, ios, n.ios, from, size) {
+    if io_taken(text, ios, n.ios, from, size, fresh) {
         return refuse(9, place);
     }
     io_limits(place, name, width, n)
@@ -113,11 +121,12 @@ pub fn note_io(
     width: u32,
     rows: &mut [u32],
     n: Tally,
+    fresh: bool,
 ) -> Noting
-    requires { ⌜ (length (now text) ≤ 65536) × SomeNoted (now text) n (now rows) × StrIn (now text) name ⌝ }
+    requires { ⌜ (length (now text) ≤ 65536) × SomeNoted (now text) n (now rows) × StrIn (now text) name × FreshIo (now text) (iosIn (now rows)) (n .ios) (name .from) (name .size) fresh ⌝ }
     ensures { λ r. ⌜ ((bits work : List ℕ) (so : Sofar) (index : ℕ) → Noted (now (text .entry)) so n (now (rows .entry)) bits work → After (now (text .entry)) so (ioDeclared place index name width) r (now (rows .exit)) bits work) ⌝ }
 {
-    match io_ruled(text, place, name, width, &rows[9219..9411], n) {
+    match io_ruled(text, place, name, width, &rows[9219..9411], n, fresh) {
         Ruling::Refused(g) => Noting::Refused(g),
         Ruling::Passed => {
             let more = add_io(name, width, &mut rows[9219..9411], n);

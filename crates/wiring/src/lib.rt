@@ -16,7 +16,7 @@ ghost use Rattle.saying.specs.Rules.{Sofar};
 ghost use Rattle.netlist.specs.Rules.{anyKind};
 ghost use Rattle.ground.specs.Lists.{joined};
 ghost use Rattle.ground.specs.Regions.{pad};
-ghost use Rattle.asking.specs.Namesakes.{CellsNoted};
+ghost use Rattle.asking.specs.Namesakes.{CellsNoted, FreshCell};
 ghost use Rattle.asking.specs.References.{misnamed, kindsSaid};
 ghost use Rattle.laying.specs.Holding.{Held, Room};
 ghost use Rattle.noting.specs.Noted.{metasIn, cellsIn, runsIn, runTritsIn, cellMapIn, metaMapIn, placesIn, NotedSome, Noted, After};
@@ -236,8 +236,16 @@ fn meta_row(work: &[u32], r: Ref) -> u32
 }
 
 // Rule 9: the number, or the name among the cells of the kind.
-fn is_twice(text: &[u8], rows: &[u32], work: &[u32], index: u32, w: Wiring, n: usize) -> bool
-    requires { ⌜ (length (now rows) ≡ 26307) × (length (now work) ≡ 132608) × CellsNoted (now text) (cellsIn (now rows)) n × (kindAt (w .kind) .named ≡ true → StrIn (now text) (w .name)) ⌝ }
+fn is_twice(
+    text: &[u8],
+    rows: &[u32],
+    work: &[u32],
+    index: u32,
+    w: Wiring,
+    n: usize,
+    fresh: bool,
+) -> bool
+    requires { ⌜ (length (now rows) ≡ 26307) × (length (now work) ≡ 132608) × CellsNoted (now text) (cellsIn (now rows)) n × (kindAt (w .kind) .named ≡ true → StrIn (now text) (w .name)) × FreshCell (now text) (cellsIn (now rows)) n (w .kind) (w .name .from) (w .name .size) fresh ⌝ }
     ensures { λ r. ⌜ (Twice (now (text .entry)) w index n (now (rows .entry)) (now (work .entry)) r) ⌝ }
 {
     if 1 <= number_row(work, index) {
@@ -246,7 +254,15 @@ fn is_twice(text: &[u8], rows: &[u32], work: &[u32], index: u32, w: Wiring, n: u
     let kind = w.kind;
     let name = w.name;
     if has_name(kind) {
-        return cell_taken(text, &rows[9411..14019], n, kind, name.from, name.size);
+        return cell_taken(
+            text,
+            &rows[9411..14019],
+            n,
+            kind,
+            name.from,
+            name.size,
+            fresh,
+        );
     }
     false
 }
@@ -301,7 +317,7 @@ fn is_misfit(w: Wiring) -> bool
     true
 }
 
-// A declared cell: the first rule that it breaks, or the tables with it.
+// A declared cell, whose name may be known to be fresh: the first rule that it breaks, or the tables with it.
 pub fn note_cell(
     t: &[u8; 256],
     text: &[u8],
@@ -311,15 +327,16 @@ pub fn note_cell(
     bits: &mut [u8],
     work: &mut [u32],
     n: Tally,
+    fresh: bool,
 ) -> Noting
-    requires { ⌜ (now t ≡ table) × (length (now text) ≤ 65536) × NotedSome (now text) n (now rows) (now bits) (now work) × Formed (now text) d × (d .decl ≡ decl.Cell w) ⌝ }
+    requires { ⌜ (now t ≡ table) × (length (now text) ≤ 65536) × NotedSome (now text) n (now rows) (now bits) (now work) × Formed (now text) d × (d .decl ≡ decl.Cell w) × FreshCell (now text) (cellsIn (now rows)) (n .cells) (w .kind) (w .name .from) (w .name .size) fresh ⌝ }
     ensures { λ r. ⌜ ((so : Sofar) → Noted (now (text .entry)) so n (now (rows .entry)) (now (bits .entry)) (now (work .entry)) → After (now (text .entry)) so d r (now (rows .exit)) (now (bits .exit)) (now (work .exit))) ⌝ }
 {
     let index = d.index;
     let place = d.place;
     let meta = w.meta;
     let reference = meta.place;
-    if is_twice(text, rows, work, index, w, n.cells) {
+    if is_twice(text, rows, work, index, w, n.cells, fresh) {
         return Noting::Refused(Refusal { number: 9, place });
     }
     if is_misnamed(rows, work, n.metas, meta) {

@@ -27,7 +27,7 @@ part-cell-taken-end c = search needs
 
 cell-taken-requires : tie.Need-cell-taken-requires
 unfolding part
-cell-taken-requires c κs = let s = c .before .before .before .before .before .before .before .before .before in (s .pre .2, s .pre .3 (sym (c .before .before .has-name .ensures) ∙ c .before .if2 .taken) .size)
+cell-taken-requires c κs = let s = c .before .before .before .before .before .before .before .before .before in (s .pre .2, s .pre .3 (sym (c .before .before .has-name .ensures) ∙ c .before .if2 .taken) .size, s .pre .4)
 
 returns-2 : tie.Need-returns-2
 unfolding part

@@ -11,7 +11,7 @@ use Rattle.wiring.proofs.note_cell.Statement.{statement}
 use Rattle.wiring.proofs.note_cell.Tie as tie
 
 is-twice-requires : tie.Need-is-twice-requires
-is-twice-requires c κs = let s = c .before .before .before .before .before .before .before .before .before in let a = s .args in let e = s .pre .4 in let i = wiring-in (a .text .now) (a .d) (a .w) e (s .pre .3 .decl) in let some = s .pre .2 in (some .noted .longRows, some .noted .longWork, cells-noted (a .text .now) (some .so) (a .n) (a .rows .now) (a .bits .now) (a .work .now) (some .noted) (a .w), i .name)
+is-twice-requires c κs = let s = c .before .before .before .before .before .before .before .before .before in let a = s .args in let e = s .pre .4 in let i = wiring-in (a .text .now) (a .d) (a .w) e (s .pre .3 .decl) in let some = s .pre .2 in (some .noted .longRows, some .noted .longWork, cells-noted (a .text .now) (some .so) (a .n) (a .rows .now) (a .bits .now) (a .work .now) (some .noted) (a .w), i .name, s .pre .5)
 
 same-length : tie.Need-same-length
 same-length c = search needs

@@ -21,7 +21,7 @@ enum-known-w c = search needs
 
 -- src/notes.rt:55:26
 note-cell-requires : tie.Need-note-cell-requires
-note-cell-requires c κs = let p = c .before .before .before .before .before .before .before .before .before .before .before .before in (p .pre .0, p .pre .1, p .pre .2, p .pre .3, is-cell (p .args .d .decl) _ (sym (c .before .before .before .before .before .before .sort-of .ensures) ∙ c .before .before .before .before .w .given .1))
+note-cell-requires c κs = let p = c .before .before .before .before .before .before .before .before .before .before .before .before in let e = is-cell (p .args .d .decl) _ (sym (c .before .before .before .before .before .before .sort-of .ensures) ∙ c .before .before .before .before .w .given .1) in (p .pre .0, p .pre .1, p .pre .2, p .pre .3, e, p .pre .4 .cell _ e)
 
 -- src/notes.rt:56:19
 enum-known-name : tie.Need-enum-known-name
@@ -32,7 +32,7 @@ note-io-requires : tie.Need-note-io-requires
 note-io-requires c κs = let p = c .before .before .before .before .before .before .before .before .before .before in
     let e = is-pad (p .args .d .decl) _ _ (sym (c .before .before .before .before .sort-of .ensures) ∙ c .before .before .name .given .1) in
     let n = p .pre .2 in
-    (p .pre .1, record { bits = p .args .bits .now; work = p .args .work .now; so = n .so; noted = n .noted }, subst (DeclIn (p .args .text .now)) e (p .pre .3 .decl))
+    (p .pre .1, record { bits = p .args .bits .now; work = p .args .work .now; so = n .so; noted = n .noted }, subst (DeclIn (p .args .text .now)) e (p .pre .3 .decl), p .pre .4 .io _ _ e)
 
 -- src/notes.rt:57:49
 enum-told : tie.Need-enum-told

@@ -21,7 +21,7 @@ part-io-ruled-end c = search needs
 
 io-ruled-requires : tie.Need-io-ruled-requires
 unfolding part
-io-ruled-requires c κs = let s = c .before .before .before .before in let a = s .args in let p = s .pre .1 in let q = io-asks (a .text .now) (p .so) (a .n) (a .rows .now) (p .bits) (p .work) (p .noted) in (q .0, q .1, s .pre .2)
+io-ruled-requires c κs = let s = c .before .before .before .before in let a = s .args in let p = s .pre .1 in let q = io-asks (a .text .now) (p .so) (a .n) (a .rows .now) (p .bits) (p .work) (p .noted) in (q .0, q .1, s .pre .2, s .pre .3)
 
 enum-known-g : tie.Need-enum-known-g
 enum-known-g c = search needs
