@@ -1,0 +1,61 @@
+use Prim.Native.Nat.{_≤_, _-_, _+_, _*_}
+use borrow.Author.Needs.{needs}
+use Rattle.grackle.proofs.names.tell_pad_rows.Statement.{statement}
+use Rattle.grackle.proofs.names.tell_pad_rows.Tie as tie
+use Rattle.grackle.proofs.names.tell_pad_rows.Reads as reads
+use Rattle.grackle.proofs.names.tell_pad_rows.Lts as lts
+use Rattle.grackle.proofs.names.tell_pad_row.Reads as tell-pad-row-reads
+use Rattle.grackle.proofs.words.word_at.Reads as word-at-reads
+
+abbrev Inv-loop : tie.InvT-loop
+Inv-loop rows strings count row₀ row = row ≤ count
+
+abbrev μ-loop : tie.MeasureT-loop
+μ-loop rows strings count row₀ row = count - row
+
+-- src/names.rt:94:9
+word-at-requires : tie.Need-word-at-requires Inv-loop μ-loop
+word-at-requires c κs = search needs
+
+-- src/names.rt:96:5
+loop-holds : tie.Need-loop-holds Inv-loop μ-loop
+loop-holds c = search needs
+
+-- src/names.rt:97:12
+tell-pad-row-requires : tie.Need-tell-pad-row-requires Inv-loop μ-loop
+tell-pad-row-requires c κs = search needs
+
+-- src/names.rt:98:13
+add-row : tie.Need-add-row Inv-loop μ-loop
+add-row c = search needs
+
+-- src/names.rt:96:5
+loop-less : tie.Need-loop-less Inv-loop μ-loop
+loop-less c = search needs
+
+-- src/names.rt:96:5
+loop-again : tie.Need-loop-again Inv-loop μ-loop
+loop-again c = search needs
+
+-- src/names.rt:100:13
+returns : tie.Need-returns Inv-loop μ-loop
+returns c = search needs
+
+-- src/names.rt:93:1
+returns-2 : tie.Need-returns-2 Inv-loop μ-loop
+returns-2 c = search needs
+
+pub tell-pad-rows-spec : {M : Type 1} → statement M
+tell-pad-rows-spec =
+    tie.close
+    (tie.spec
+    Inv-loop
+    μ-loop
+    word-at-requires
+    loop-holds
+    tell-pad-row-requires
+    add-row
+    loop-less
+    loop-again
+    returns
+    returns-2)

@@ -1,0 +1,43 @@
+// Words of the command line.
+
+// Whether two words are the same.
+pub fn same(a: &[u8], b: &[u8]) -> bool {
+    if a.len() != b.len() {
+        return false;
+    }
+    let mut i: usize = 0;
+    while i < a.len() {
+        if byte_at(a, i) != byte_at(b, i) {
+            return false;
+        }
+        i += 1;
+    }
+    true
+}
+
+// The byte at a place, and 0 past the end.
+pub fn byte_at(bytes: &[u8], at: usize) -> u8 {
+    if at < bytes.len() {
+        return bytes[at];
+    }
+    0
+}
+
+fn wide(word: u32) -> usize {
+    word as usize
+}
+
+// The word at a place, and 0 past the end.
+pub fn word_at(words: &[u32], at: usize) -> usize {
+    if at < words.len() {
+        return wide(words[at]);
+    }
+    0
+}
+
+// Whether an argument is the option for bits alone.
+pub fn is_option(i: usize) -> bool {
+    let mut room = [0u8; 16];
+    let n = os::arg(i, &mut room);
+    same(&room[..n], b"--bits")
+}
