@@ -2,8 +2,8 @@
 use crate::notes::Sort;
 use crate::notes::sort_of;
 use asking::names::name_mark;
-use form::Declared;
 use brackets::Str;
+use form::Declared;
 use form::Wiring;
 use kinds::has_name;
 use marking::is_new;
