@@ -1,18 +1,19 @@
 -- Laws of the definitions at a record of the list: what the code's returns and loops go by.
 use mathlib.Core.Path.{_≡_, sym, _∙_}
-use mathlib.Core.Bool.{true, false}
+use mathlib.Core.Bool.{true, false, _&&_}
 use mathlib.Core.List.{List}
 use Prim.Native.Nat.{ℕ, _+_, _*_, _/_, _<_, _≤_}
 use native.Mathlib.Nat.{add-zero}
 use native.Mathlib.Omega.{arith}
-use lib.Dec.{eqb, leb}
+use lib.Dec.{eqb, leb, ltb}
 use lib.ListN.{length, take, drop, getD, length-take, length-drop}
 use lib.Seq.{getD-drop}
 use borrow.Author.Tests.{lt-ltb, le-ltb, le-leb, lt-leb, leb-true, leb-false, eq-eqb, ne-eqb}
 use Rattle.ground.proofs.Bools.{bool-cases}
 use Rattle.ground.proofs.Rest.{rest-end}
 use Rattle.loadlist.specs.Records.{rec, recordIn}
-use Rattle.loadlist.specs.Check.{isWhole, marked, firstFits, secondFits, goodRecord}
+use Rattle.loadlist.specs.declared.Record.{Record}
+use Rattle.loadlist.specs.Check.{isWhole, marked, firstFits, secondFits, fits, goodRecord}
 
 -- a record is whole where eight bytes are left
 pub whole-there : (s : List ℕ) (k : ℕ) → leb (8 * k + 8) (length s) ≡ isWhole (drop (8 * k) s)
@@ -49,18 +50,22 @@ module _ (s : List ℕ) (k inputs outputs : ℕ) where
       good-unmarked e = rw (lt-ltb k 8192 early, whole, e)
 
       module _ (mark : marked s ≡ true) where
-        pub good-no-operation : 8 < recordIn s .op → false ≡ goodRecord s k inputs outputs
+        pub good-fields : fits (recordIn s) k inputs outputs ≡ goodRecord s k inputs outputs
         unfolding goodRecord
-        good-no-operation e = rw (lt-ltb k 8192 early, whole, mark, lt-leb (recordIn s .op) 8 e)
+        good-fields = rw (lt-ltb k 8192 early, whole, mark)
 
-        module _ (operation : recordIn s .op ≤ 8) where
-          pub good-first : firstFits (recordIn s) k inputs ≡ false → false ≡ goodRecord s k inputs outputs
-          unfolding goodRecord
-          good-first e = rw (lt-ltb k 8192 early, whole, mark, le-leb (recordIn s .op) 8 operation, e)
+-- the fields of a known operation, in their order
+module _ (r : Record) (k inputs outputs : ℕ) (known : r .op ≤ 8) where
+  pub fits-second : firstFits r k inputs ≡ true → secondFits r k outputs ≡ fits r k inputs outputs
+  fits-second e = rw (le-leb (r .op) 8 known, e)
 
-          pub good-second : firstFits (recordIn s) k inputs ≡ true → secondFits (recordIn s) k outputs ≡ goodRecord s k inputs outputs
-          unfolding goodRecord
-          good-second e = rw (lt-ltb k 8192 early, whole, mark, le-leb (recordIn s .op) 8 operation, e)
+  pub fits-first : firstFits r k inputs ≡ false → false ≡ fits r k inputs outputs
+  fits-first e = rw (le-leb (r .op) 8 known, e)
+
+-- a gate of two fields fits where both are earlier slots
+pub gate-fits : (r : Record) (k inputs outputs : ℕ) → 4 < r .op → r .op < 8 → (ltb (r .first) k && ltb (r .second) k) ≡ fits r k inputs outputs
+gate-fits r k inputs outputs h l =
+    rw (le-leb (r .op) 8 (omega arith), le-ltb (r .op) 3 (omega arith), ne-eqb (r .op) 3 (λ e. omega arith), lt-leb (r .op) 4 h, ne-eqb (r .op) 8 (λ e. omega arith))
 
 -- the mark's tests, in their order
 module _ (s : List ℕ) (at : ℕ) where

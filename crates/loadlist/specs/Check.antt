@@ -28,11 +28,13 @@ firstFits r k inputs = pick (ltb (r .op) inputOp) (eqb (r .first) 0) (pick (eqb 
 abbrev pub secondFits : Record → ℕ → ℕ → Bool
 secondFits r k outputs = pick (leb (r .op) notOp) (eqb (r .second) 0) (pick (eqb (r .op) outputOp) (eqb (r .second) outputs) (ltb (r .second) k))
 
+abbrev pub fits : Record → ℕ → ℕ → ℕ → Bool
+fits r k inputs outputs = leb (r .op) 8 && (firstFits r k inputs && secondFits r k outputs)
+
 -- "at most 8,192 records"
 unfoldable pub goodRecord : List ℕ → ℕ → ℕ → ℕ → Bool
 goodRecord s k inputs outputs =
-    ltb k 8192 && (isWhole s && (marked s && (leb (recordIn s .op) 8
-    && (firstFits (recordIn s) k inputs && secondFits (recordIn s) k outputs))))
+    ltb k 8192 && (isWhole s && (marked s && fits (recordIn s) k inputs outputs))
 
 -- one more where the record has the operation
 abbrev pub counted : ℕ → Record → ℕ → ℕ

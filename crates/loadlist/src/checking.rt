@@ -4,11 +4,12 @@ use crate::Record;
 use crate::records::byte_at;
 use crate::records::record_at;
 ghost use mathlib.Core.Path.{_≡_};
-ghost use mathlib.Core.Bool.{Bool};
+ghost use mathlib.Core.Bool.{Bool, _&&_};
 ghost use Prim.Native.Nat.{ℕ, _+_, _*_, _≤_, _<_};
+ghost use lib.Dec.{ltb};
 ghost use lib.ListN.{length, drop};
 ghost use Rattle.loadlist.specs.Records.{recordIn};
-ghost use Rattle.loadlist.specs.Check.{marked, isWhole, firstFits, secondFits, goodRecord, counted, recordCount, listedOf};
+ghost use Rattle.loadlist.specs.Check.{marked, isWhole, firstFits, secondFits, fits, goodRecord, counted, recordCount, listedOf};
 
 // The mark and the byte that is always 0.
 fn marked_at(list: &[u8], k: usize) -> bool
@@ -59,6 +60,41 @@ fn second_fits(r: Record, k: usize, outputs: usize) -> bool
     second < k
 }
 
+// Both fields name earlier slots.
+fn both_earlier(r: Record, k: usize) -> bool
+    ensures { λ b. ⌜ b ≡ (ltb (r .first) k && ltb (r .second) k) ⌝ }
+{
+    let first = r.first as usize;
+    let second = r.second as usize;
+    if first < k {
+        return second < k;
+    }
+    false
+}
+
+fn known_fits(r: Record, k: usize, inputs: usize, outputs: usize) -> bool
+    ensures { λ b. ⌜ b ≡ fits r k inputs outputs ⌝ }
+{
+    if r.op <= 8 {
+        if first_fits(r, k, inputs) {
+            return second_fits(r, k, outputs);
+        }
+    }
+    false
+}
+
+// A known operation, with the fields that it must have. Gates of two fields are asked for first, since most records are such.
+fn fields_fit(r: Record, k: usize, inputs: usize, outputs: usize) -> bool
+    ensures { λ b. ⌜ b ≡ fits r k inputs outputs ⌝ }
+{
+    if 4 < r.op {
+        if r.op < 8 {
+            return both_earlier(r, k);
+        }
+    }
+    known_fits(r, k, inputs, outputs)
+}
+
 fn good_record(list: &[u8], k: usize, inputs: usize, outputs: usize) -> bool
     requires { ⌜ k ≤ 8192 ⌝ }
     ensures { λ b. ⌜ b ≡ goodRecord (drop (8 * k) (now (list .entry))) k inputs outputs ⌝ }
@@ -68,12 +104,7 @@ fn good_record(list: &[u8], k: usize, inputs: usize, outputs: usize) -> bool
     }
     if whole_at(list, k) {
         if marked_at(list, k) {
-            let r = record_at(list, k);
-            if r.op <= 8 {
-                if first_fits(r, k, inputs) {
-                    return second_fits(r, k, outputs);
-                }
-            }
+            return fields_fit(record_at(list, k), k, inputs, outputs);
         }
     }
     false

@@ -23,8 +23,19 @@ fn field(low: u8, high: u8) -> u16
     (low as u16) + 256 * (high as u16)
 }
 
-// Record k of the list; a field past the list's end is 0. The test keeps 8 * k in range.
-pub fn record_at(list: &[u8], k: usize) -> Record
+// A record whose eight bytes are all there.
+fn whole_record(list: &[u8], at: usize) -> Record
+    requires { ⌜ at + 8 ≤ length (now list) ⌝ }
+    ensures { λ r. ⌜ r ≡ recordIn (drop at (now (list .entry))) ⌝ }
+{
+    let op = list[at + 2];
+    let first = field(list[at + 4], list[at + 5]);
+    let second = field(list[at + 6], list[at + 7]);
+    Record { op, first, second }
+}
+
+// Record k of the list, where it is not known to be whole; a field past the list's end is 0. The test keeps 8 * k in range.
+fn part_record(list: &[u8], k: usize) -> Record
     ensures { λ r. ⌜ r ≡ recordIn (drop (8 * k) (now (list .entry))) ⌝ }
 {
     if list.len() / 8 < k {
@@ -39,6 +50,16 @@ pub fn record_at(list: &[u8], k: usize) -> Record
     let first = field(byte_at(list, at + 4), byte_at(list, at + 5));
     let second = field(byte_at(list, at + 6), byte_at(list, at + 7));
     Record { op, first, second }
+}
+
+// Record k of the list. Nearly every record is whole, and its bytes are then read without a test for each.
+pub fn record_at(list: &[u8], k: usize) -> Record
+    ensures { λ r. ⌜ r ≡ recordIn (drop (8 * k) (now (list .entry))) ⌝ }
+{
+    if k < list.len() / 8 {
+        return whole_record(list, 8 * k);
+    }
+    part_record(list, k)
 }
 
 fn low(x: u16) -> u8

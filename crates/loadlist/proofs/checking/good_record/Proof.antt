@@ -2,7 +2,7 @@ use mathlib.Core.Path.{_∙_, sym}
 use Prim.Native.Nat.{_*_}
 use lib.ListN.{drop}
 use borrow.Author.Needs.{needs}
-use Rattle.loadlist.proofs.Laws.{good-late, good-part, good-unmarked, good-no-operation, good-first, good-second}
+use Rattle.loadlist.proofs.Laws.{good-late, good-part, good-unmarked, good-fields}
 use Rattle.loadlist.proofs.checking.good_record.Statement.{statement}
 use Rattle.loadlist.proofs.checking.good_record.Tie as tie
 
@@ -18,43 +18,24 @@ marked-at-requires c κs = search needs
 record-at-requires : tie.Need-record-at-requires
 record-at-requires c κs = search needs
 
-first-fits-requires : tie.Need-first-fits-requires
-first-fits-requires c κs = search needs
-
-second-fits-requires : tie.Need-second-fits-requires
-second-fits-requires c κs = search needs
+fields-fit-requires : tie.Need-fields-fit-requires
+fields-fit-requires c κs = search needs
 
 returns-2 : tie.Need-returns-2
 returns-2 c =
-    let r = c .before .before .before .before .before in
-    let m = r .before .before in
+    let m = c .before .before .before in
     let w = m .before .before in
     let s = w .before .before .before .args in
-    (rw (r .record-at .ensures) at (c .second-fits .ensures)) ∙ good-second (drop (8 * s .k) (s .list .now)) (s .k) (s .inputs) (s .outputs) (w .before .if1 .left) (sym (w .whole-at .ensures) ∙ m .before .if2 .taken) (sym (m .marked-at .ensures) ∙ r .before .if3 .taken) (rw (r .record-at .ensures) at (c .before .before .before .if4 .taken)) (rw (r .record-at .ensures) at (sym (c .before .before .first-fits .ensures) ∙ c .before .if5 .taken))
+    (rw (c .before .record-at .ensures) at (c .fields-fit .ensures)) ∙ good-fields (drop (8 * s .k) (s .list .now)) (s .k) (s .inputs) (s .outputs) (w .before .if1 .left) (sym (w .whole-at .ensures) ∙ m .before .if2 .taken) (sym (m .marked-at .ensures) ∙ c .before .before .if3 .taken)
 
 returns-3 : tie.Need-returns-3
 returns-3 c =
-    let r = c .before .before .before .before in
-    let m = r .before .before in
-    let w = m .before .before in
-    let s = w .before .before .before .args in
-    good-first (drop (8 * s .k) (s .list .now)) (s .k) (s .inputs) (s .outputs) (w .before .if1 .left) (sym (w .whole-at .ensures) ∙ m .before .if2 .taken) (sym (m .marked-at .ensures) ∙ r .before .if3 .taken) (rw (r .record-at .ensures) at (c .before .before .if4 .taken)) (rw (r .record-at .ensures) at (sym (c .before .first-fits .ensures) ∙ c .if5 .left))
-
-returns-4 : tie.Need-returns-4
-returns-4 c =
-    let m = c .before .before .before .before in
-    let w = m .before .before in
-    let s = w .before .before .before .args in
-    good-no-operation (drop (8 * s .k) (s .list .now)) (s .k) (s .inputs) (s .outputs) (w .before .if1 .left) (sym (w .whole-at .ensures) ∙ m .before .if2 .taken) (sym (m .marked-at .ensures) ∙ c .before .before .before .if3 .taken) (rw (c .before .before .record-at .ensures) at (c .if4 .left))
-
-returns-5 : tie.Need-returns-5
-returns-5 c =
     let w = c .before .before .before in
     let s = w .before .before .before .args in
     good-unmarked (drop (8 * s .k) (s .list .now)) (s .k) (s .inputs) (s .outputs) (w .before .if1 .left) (sym (w .whole-at .ensures) ∙ c .before .before .if2 .taken) (sym (c .before .marked-at .ensures) ∙ c .if3 .left)
 
-returns-6 : tie.Need-returns-6
-returns-6 c =
+returns-4 : tie.Need-returns-4
+returns-4 c =
     let s = c .before .before .before .before .args in
     good-part (drop (8 * s .k) (s .list .now)) (s .k) (s .inputs) (s .outputs) (c .before .before .if1 .left) (sym (c .before .whole-at .ensures) ∙ c .if2 .left)
 
@@ -66,10 +47,7 @@ good-record-spec =
     whole-at-requires
     marked-at-requires
     record-at-requires
-    first-fits-requires
-    second-fits-requires
+    fields-fit-requires
     returns-2
     returns-3
-    returns-4
-    returns-5
-    returns-6)
+    returns-4)

@@ -1,8 +1,8 @@
 use Prim.Native.Nat.{_*_}
 use borrow.Author.Needs.{needs}
 use Rattle.loadlist.proofs.Laws.{read-there, read-past}
-use Rattle.loadlist.proofs.records.record_at.Statement.{statement}
-use Rattle.loadlist.proofs.records.record_at.Tie as tie
+use Rattle.loadlist.proofs.records.part_record.Statement.{statement}
+use Rattle.loadlist.proofs.records.part_record.Tie as tie
 
 returns : tie.Need-returns
 returns c = let s = c .before .before .args in read-past (s .list .now) (s .k) (c .if1 .taken)
@@ -49,8 +49,8 @@ field-requires-2 c κs = search needs
 returns-2 : tie.Need-returns-2
 returns-2 c = let s = c .before .before .before .before .before .before .before .before .before .args in cc (read-there (s .list .now) (8 * s .k))
 
-pub record-at-spec : {M : Type 1} → statement M
-record-at-spec =
+pub part-record-spec : {M : Type 1} → statement M
+part-record-spec =
     tie.close
     (tie.spec
     returns
