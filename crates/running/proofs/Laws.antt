@@ -8,7 +8,7 @@ use native.Mathlib.Numerals.{add-one}
 use lib.Dec.{ltb}
 use lib.ListN.{length, take, drop, getD, set, length-set, length-take, take-append-drop, List·getD-eq-default}
 use lib.Seq.{getD-take, take-suc-set, drop-set-lt, drop-drop}
-use borrow.Author.Tests.{lt-ltb, le-ltb}
+use borrow.Author.Tests.{lt-ltb, le-ltb, eq-eqb, ne-eqb}
 use Rattle.ground.specs.Lists.{every}
 use Rattle.ground.specs.Regions.{over}
 use Rattle.ground.proofs.Rest.{rest-cons, rest-end}
@@ -16,6 +16,16 @@ use Rattle.loadlist.specs.declared.Record.{Record}
 use Rattle.loadlist.specs.Records.{recordIn, recordsIn}
 use Rattle.loadlist.specs.Run.{slotOf, slotsFrom}
 use Rattle.loadlist.proofs.Walk.{records-more}
+use Rattle.trit.specs.Trit.{notOf}
+use Rattle.running.specs.Gates.{gateOf}
+
+-- the slot of a record, by its operation
+module _ (r : Record) (ins slots : List ℕ) where
+  pub slot-gate : 4 < r .op → gateOf (r .op) (getD slots (r .first) 0) (getD slots (r .second) 0) ≡ slotOf r ins slots
+  slot-gate h = rw (le-ltb (r .op) 3 (omega arith), ne-eqb (r .op) 3 (λ e. omega arith), ne-eqb (r .op) 4 (λ e. omega arith))
+
+  pub slot-not : r .op ≤ 4 → 3 ≤ r .op → (r .op ≡ 3 → ⊥) → notOf (getD slots (r .first) 0) ≡ slotOf r ins slots
+  slot-not h l n = rw (le-ltb (r .op) 3 l, ne-eqb (r .op) 3 n, eq-eqb (r .op) 4 (omega arith))
 
 -- the test of an assignment, byte by byte
 abbrev pub trits : List ℕ → Bool

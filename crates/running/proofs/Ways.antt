@@ -88,8 +88,8 @@ module _ {list work : List ℕ} {inputs answers : ℕ} (ins outs : List ℕ) (cl
             ap₂ (λ m w. outputsIn (recordsIn m list) w) count held
             ∙ outputs-front (records list) (slots list ins) (zeros (8192 - length (slots list ins))) long-slots
 
-        pub answer-room : length (outputsIn (recordsIn n list) work′) ≤ length outs
-        answer-room = rw (answer-is, number) room
+        pub answer-count : answers ≡ length (outputsIn (recordsIn n list) work′)
+        answer-count = sym (ap length answer-is ∙ number)
 
         pub ran : {outs′ : List ℕ} → outs′ ≡ sets outs 0 (outputsIn (recordsIn n list) work′) → made (Outputs answers) outs′ work′ ≡ ranFrom none list ins outs work
         ran {outs′} e =

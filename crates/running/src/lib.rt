@@ -52,7 +52,7 @@ fn run_good(
         }
         let n = record_count(list);
         make_slots(list, ins, work, n);
-        give_outputs(list, work, outs, n);
+        give_outputs(list, work, outs, n, outputs);
         return Ran::Outputs(outputs);
     }
     refused(23, 0)

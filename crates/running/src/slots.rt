@@ -9,6 +9,7 @@ ghost use lib.ListN.{length, take, getD};
 ghost use Rattle.ground.specs.Regions.{over};
 ghost use Rattle.loadlist.specs.Records.{recordsIn};
 ghost use Rattle.loadlist.specs.Run.{slotOf, slotsFrom};
+ghost use Rattle.running.specs.Gates.{gateOf};
 
 // Slot i of the first k; 0 where it is not made yet.
 fn slot_at(work: &[u8], k: usize, i: usize) -> u8
@@ -21,25 +22,10 @@ fn slot_at(work: &[u8], k: usize, i: usize) -> u8
     0
 }
 
-// What the record makes of the input bits and the first k slots.
-fn slot_of(r: Record, ins: &[u8], work: &[u8], k: usize) -> u8
-    requires { ⌜ k ≤ length (now work) ⌝ }
-    ensures { λ x. ⌜ x ≡ slotOf r (now (ins .entry)) (take k (now (work .entry))) ⌝ }
+// What an operation above 4 makes of two slots.
+fn gate_of(op: u8, x: u8, y: u8) -> u8
+    ensures { λ r. ⌜ r ≡ gateOf op x y ⌝ }
 {
-    let op = r.op;
-    if op < 3 {
-        return op;
-    }
-    let first = r.first as usize;
-    if op == 3 {
-        return byte_at(ins, first);
-    }
-    let x = slot_at(work, k, first);
-    if op == 4 {
-        return trit::not3(x);
-    }
-    let second = r.second as usize;
-    let y = slot_at(work, k, second);
     if op == 5 {
         return trit::and3(x, y);
     }
@@ -50,6 +36,28 @@ fn slot_of(r: Record, ins: &[u8], work: &[u8], k: usize) -> u8
         return trit::xor3(x, y);
     }
     x
+}
+
+// What the record makes of the input bits and the first k slots. Gates of two fields come first, since most records are such.
+fn slot_of(r: Record, ins: &[u8], work: &[u8], k: usize) -> u8
+    requires { ⌜ k ≤ length (now work) ⌝ }
+    ensures { λ x. ⌜ x ≡ slotOf r (now (ins .entry)) (take k (now (work .entry))) ⌝ }
+{
+    let op = r.op;
+    let first = r.first as usize;
+    if 4 < op {
+        let second = r.second as usize;
+        let x = slot_at(work, k, first);
+        let y = slot_at(work, k, second);
+        return gate_of(op, x, y);
+    }
+    if op < 3 {
+        return op;
+    }
+    if op == 3 {
+        return byte_at(ins, first);
+    }
+    trit::not3(slot_at(work, k, first))
 }
 
 // The first n records make the first n slots; the rest of the work space stays.

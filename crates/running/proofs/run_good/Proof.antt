@@ -1,7 +1,7 @@
 use mathlib.Core.Path.{sym, _∙_}
 use borrow.Author.Needs.{needs}
 use Rattle.loadlist.proofs.Good.{good-list}
-use Rattle.running.proofs.Ways.{unfit, wrong-length, wrong-bit, no-room, slots-room, slots-held, answer-room, ran}
+use Rattle.running.proofs.Ways.{unfit, wrong-length, wrong-bit, no-room, slots-room, slots-held, answer-count, ran}
 use Rattle.running.proofs.run_good.Statement.{statement}
 use Rattle.running.proofs.run_good.Tie as tie
 
@@ -53,7 +53,8 @@ give-outputs-requires c κs =
     let g = good-list (a .list .now) (a .inputs) (a .outputs) (s .pre .1) in
     let b = sym (t .all-trits .ensures) ∙ n .before .before .if2 .taken in (
       slots-held (a .ins .now) (a .outs .now) (s .pre .0) g (t .before .if1 .left) b (n .before .if3 .left) (n .record-count .ensures) (m .make-slots .ensures),
-      answer-room (a .ins .now) (a .outs .now) (s .pre .0) g (t .before .if1 .left) b (n .before .if3 .left) (n .record-count .ensures) (m .make-slots .ensures),
+      n .before .if3 .left,
+      answer-count (a .ins .now) (a .outs .now) (s .pre .0) g (t .before .if1 .left) b (n .before .if3 .left) (n .record-count .ensures) (m .make-slots .ensures),
     )
 
 same-length : tie.Need-same-length

@@ -1,45 +1,50 @@
-use Prim.Native.Nat.{_≤_, _-_}
+use Prim.Native.Nat.{_≤_}
 use native.Mathlib.Omega.{arith}
 use borrow.Author.Needs.{needs}
-use Rattle.running.proofs.Giving.{Gave, gave-none, gave-room, gave-more, gave-all}
+use Rattle.running.proofs.Giving.{Gave, gave-none, gave-left, gave-more, gave-all}
 use Rattle.running.proofs.outputs.give_outputs.Statement.{statement}
 use Rattle.running.proofs.outputs.give_outputs.Tie as tie
+use Rattle.running.proofs.outputs.give_outputs.Reads as reads
+use Rattle.running.proofs.outputs.give_outputs.Lts as lts
+use Rattle.loadlist.proofs.records.record_at.Reads as record-at-reads
+use Rattle.running.proofs.outputs.give.Reads as give-reads
 
 abbrev Inv-loop : tie.InvT-loop
-Inv-loop list work outs₀ n k₀ at₀ outs k at = (k ≤ n) × Gave list work n outs₀ k at outs
+Inv-loop list work outs₀ n count k₀ at₀ outs k at = (k ≤ n) × Gave list work n outs₀ k at outs
 
 abbrev μ-loop : tie.MeasureT-loop
-μ-loop list work outs₀ n k₀ at₀ outs k at = n - k
+μ-loop list work outs₀ n count k₀ at₀ outs k at = k
 
 loop-holds : tie.Need-loop-holds Inv-loop μ-loop
-loop-holds c =
-    let s = c .before .before .before in
-    (omega arith, gave-none (s .args .list .now) (s .args .work .now) (s .args .n) (s .args .outs .now) (s .pre .1))
+loop-holds c = search needs
+
+sub-k : tie.Need-sub-k Inv-loop μ-loop
+sub-k c = let h = gave-left (c .before .loop .inv .1) (c .loop-test .taken) in omega arith
 
 record-at-requires : tie.Need-record-at-requires Inv-loop μ-loop
 record-at-requires c κs = search needs
 
 shared-slice-read-give : tie.Need-shared-slice-read-give Inv-loop μ-loop
-shared-slice-read-give c = search needs
+shared-slice-read-give c =
+    let h = gave-left (c .before .before .before .loop .inv .1) (c .before .before .loop-test .taken) in
+    omega arith
 
 give-requires : tie.Need-give-requires Inv-loop μ-loop
-give-requires c κs =
-    let l = c .before .before .before .before in
-    gave-room (l .loop .inv .1) _ (c .before .before .before .loop-test .taken) (omega arith) (c .before .before .record-at .ensures)
-
-add-k : tie.Need-add-k Inv-loop μ-loop
-add-k c = search needs
+give-requires c κs = search needs
 
 loop-less : tie.Need-loop-less Inv-loop μ-loop
-loop-less c = search needs
+loop-less c =
+    let h = gave-left (c .before .before .before .before .before .before .before .loop .inv .1) (c .before .before .before .before .before .before .loop-test .taken) in
+    omega arith
 
 loop-again : tie.Need-loop-again Inv-loop μ-loop
 loop-again c =
     let l = c .before .before .before .before .before .before .before in
-    (omega arith, gave-more (l .loop .inv .1) _ (c .before .before .before .before .before .before .loop-test .taken) (omega arith) (c .before .before .before .before .before .record-at .ensures) (c .before .before .give .ensures))
+    let h = gave-left (l .loop .inv .1) (c .before .before .before .before .before .before .loop-test .taken) in
+    (omega arith, gave-more (l .loop .inv .1) _ _ (omega arith) (omega arith) (c .before .before .before .before .before .record-at .ensures) (c .before .before .give .ensures))
 
 same-length : tie.Need-same-length Inv-loop μ-loop
-same-length c = c .before .loop .inv .1 .long
+same-length c = search needs
 
 returns : tie.Need-returns Inv-loop μ-loop
 returns c = gave-all (c .before .loop .inv .1) (omega arith)
@@ -51,10 +56,10 @@ give-outputs-spec =
     Inv-loop
     μ-loop
     loop-holds
+    sub-k
     record-at-requires
     shared-slice-read-give
     give-requires
-    add-k
     loop-less
     loop-again
     same-length
