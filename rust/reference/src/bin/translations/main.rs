@@ -13,8 +13,8 @@ mod runs;
 mod texts;
 
 use case::{bits, bytes, hex, letters, Answer, Case};
-use reference::reading::{run, translate};
-use reference::{lines, read, Refusal};
+use reference::reading::{evaluate, run, translate};
+use reference::{lines, read, Refusal, Tables};
 use std::collections::HashSet;
 use std::io::Write;
 
@@ -31,7 +31,10 @@ fn answer(line: &str) -> Result<String, String> {
     let (sort, said) = line.split_once('|').ok_or("no bar")?;
     let said = lines::text(said.as_bytes()).ok_or("no text behind the bar")?;
     let told = match (sort, sort.strip_prefix("run ").and_then(|bits| bits.strip_suffix(' '))) {
-        ("list ", _) if said.len() <= 70_000 => read(&said).and_then(|tables| translate(&tables)).map(|list| records(&list)),
+        ("list ", _) if said.len() <= 70_000 => match read(&said).and_then(|tables| Ok((translate(&tables)?, tables))) {
+            Ok((list, tables)) if !runs_as_evaluated(&list, &tables) => return Err("a run differs from the evaluation".into()),
+            told => told.map(|(list, _)| records(&list)),
+        },
         (_, Some(letters)) => {
             let list = bytes(&said).filter(|list| list.len() <= 70_000 && said.len() <= 140_000).ok_or("no list")?;
             let ins = bits(letters).filter(|ins| ins.len() <= 5_000).ok_or("no bits")?;
@@ -40,6 +43,16 @@ fn answer(line: &str) -> Result<String, String> {
         _ => return Err("neither a list nor a run, or too long".into()),
     };
     Ok(told.unwrap_or_else(|Refusal { number, place }| format!("refused {number} at {place}")))
+}
+
+/// Whether the plain runner gives on the list what the plain evaluator gives on the tables.
+fn runs_as_evaluated(list: &[u8], tables: &Tables) -> bool {
+    let inputs = list.chunks(8).filter(|record| record[2] == 3).count() as u32;
+    let settings: [fn(u32) -> u32; 4] = [|_| 1, |bit| bit % 2, |bit| bit / 2 % 3, |bit| bit * bit % 7 % 3];
+    settings.iter().all(|setting| {
+        let ins: Vec<u8> = (0..inputs).map(|bit| setting(bit) as u8).collect();
+        run(list, &ins).map(|ran| ran.outputs) == evaluate(tables, &ins)
+    })
 }
 
 /// A list in hex; a long one as its number of records and a sum over its bytes.
