@@ -5,139 +5,26 @@
 use evaluating::Evaluated;
 use evaluating::evaluate;
 use ground::Refusal;
+use lending::bits::put_bits;
+use lending::bits::tell_bits;
+use lending::read_lent;
+use lending::rooms::clear;
+use lending::rooms::is_at_front;
+use lending::rooms::kept;
+use lending::rooms::same_bytes;
+use lending::telling::tell_unless;
 use libc::STDIN_FILENO;
 use libc::STDOUT_FILENO;
 use reading::Read;
-use reading::read_text;
 use worked::find;
 use worked::put_text;
 use worked::tell_refused;
-ghost use Prim.Native.Nat.{_≤_};
-ghost use lib.ListN.{length};
-
-fn byte_at(bytes: &[u8], at: usize) -> u8 {
-    if at < bytes.len() {
-        return bytes[at];
-    }
-    0
-}
-
-fn same_bytes(a: &[u8], b: &[u8], n: usize) -> bool {
-    let mut i: usize = 0;
-    while i < n {
-        if byte_at(a, i) != byte_at(b, i) {
-            return false;
-        }
-        i += 1;
-    }
-    true
-}
-
-// Whether a room holds from the place on what it was lent with.
-fn kept(room: &[u8], from: usize) -> bool {
-    let mut i = from;
-    while i < room.len() {
-        if byte_at(room, i) != 7 {
-            return false;
-        }
-        i += 1;
-    }
-    true
-}
-
-fn tell_unless(right: bool, what: &[u8]) {
-    if right {
-        return;
-    }
-    io::write_all(STDOUT_FILENO, what);
-}
-
-fn tell_one(b: u8) {
-    let one = [b];
-    io::write_all(STDOUT_FILENO, &one);
-}
-
-fn word_at(words: &[u32], at: usize) -> u32 {
-    if at < words.len() {
-        return words[at];
-    }
-    0
-}
-
-// Whether the first n words are zero and the next is as it was lent.
-fn clear(work: &[u32], n: usize) -> bool {
-    let mut i: usize = 0;
-    while i < n {
-        if word_at(work, i) != 0 {
-            return false;
-        }
-        i += 1;
-    }
-    word_at(work, n) == 7
-}
-
-fn bit_of(b: u8) -> u8 {
-    if b == 48 {
-        return 0;
-    }
-    if b == 49 {
-        return 1;
-    }
-    if b == 88 {
-        return 2;
-    }
-    3
-}
-
-fn letter_of(bit: u8) -> u8 {
-    if bit == 0 {
-        return 48;
-    }
-    if bit == 1 {
-        return 49;
-    }
-    if bit == 2 {
-        return 88;
-    }
-    63
-}
-
-// The bits that the letters before a place say, as many as there is room for.
-fn put_bits(letters: &[u8], end: usize, room: &mut [u8]) -> usize
-    ensures { λ n. ⌜ n ≤ length (now (room .entry)) ⌝ }
-{
-    let mut i: usize = 0;
-    while i < end {
-        if room.len() <= i {
-            return i;
-        }
-        room[i] = bit_of(byte_at(letters, i));
-        i += 1;
-    }
-    i
-}
-
-fn tell_bits(bits: &[u8], n: usize) {
-    let mut i: usize = 0;
-    while i < n {
-        tell_one(letter_of(byte_at(bits, i)));
-        i += 1;
-    }
-}
 
 fn gives(r: Evaluated, n: usize) -> bool {
     match r {
         Evaluated::Outputs(k) => k == n,
         Evaluated::Refused(_g) => false,
     }
-}
-
-fn is_at_front(g: Refusal, number: u8) -> bool {
-    if g.number == number {
-        let place = g.place;
-        return place.at == 0;
-    }
-    false
 }
 
 fn is_refused(r: Evaluated, number: u8) -> bool {
@@ -224,8 +111,7 @@ fn tell_text(ins: &[u8], text: &[u8]) {
     let mut rows = [7u32; 26308];
     let mut strings = [7u8; 16385];
     let mut trits = [7u8; 393729];
-    let mut work = [7u32; 132609];
-    let r = read_text(text, &mut rows, &mut strings, &mut trits, &mut work);
+    let r = read_lent(text, &mut rows, &mut strings, &mut trits);
     tell_answer(r, ins, &rows, &strings, &trits);
 }
 

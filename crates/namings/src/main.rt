@@ -3,109 +3,27 @@
 // naming refuses. Rooms are lent full of 7. It tells where a byte past a name or a refused room is changed, and where a room just as
 // long as the name or one byte short is not answered as it must be.
 use ground::Refusal;
+use lending::numbers::number;
+use lending::read_lent;
+use lending::rooms::byte_at;
+use lending::rooms::is_at_front;
+use lending::rooms::kept;
+use lending::rooms::same_bytes;
+use lending::telling::tell_hex;
+use lending::telling::tell_one;
+use lending::telling::tell_unless;
 use libc::STDIN_FILENO;
 use libc::STDOUT_FILENO;
 use naming::Named;
 use naming::full_name;
 use reading::Read;
-use reading::read_text;
 use worked::find;
 use worked::put_text;
 use worked::tell_refused;
-ghost use Prim.Native.Nat.{_≤_};
-
-fn byte_at(bytes: &[u8], at: usize) -> u8 {
-    if at < bytes.len() {
-        return bytes[at];
-    }
-    0
-}
-
-fn digit(b: u8) -> u64
-    ensures { λ r. ⌜ r ≤ 9 ⌝ }
-{
-    if b < 48 {
-        return 0;
-    }
-    if b < 58 {
-        return (b - 48) as u64;
-    }
-    0
-}
-
-// A number with a digit behind it; one of ten digits grows no more.
-fn grown(n: u64, digit: u64) -> u64
-    requires { ⌜ (n ≤ 10000000000) × (digit ≤ 9) ⌝ }
-    ensures { λ r. ⌜ r ≤ 10000000000 ⌝ }
-{
-    if n < 1000000000 {
-        return n * 10 + digit;
-    }
-    n
-}
-
-// The number that the bytes from one place to another say.
-fn number(bytes: &[u8], from: usize, end: usize) -> u64
-    ensures { λ r. ⌜ r ≤ 10000000000 ⌝ }
-{
-    let mut n: u64 = 0;
-    let mut i = from;
-    while i < end {
-        n = grown(n, digit(byte_at(bytes, i)));
-        i += 1;
-    }
-    n
-}
-
-fn same_bytes(a: &[u8], b: &[u8], n: usize) -> bool {
-    let mut i: usize = 0;
-    while i < n {
-        if byte_at(a, i) != byte_at(b, i) {
-            return false;
-        }
-        i += 1;
-    }
-    true
-}
-
-// Whether a room holds from the place on what it was lent with.
-fn kept(room: &[u8], from: usize) -> bool {
-    let mut i = from;
-    while i < room.len() {
-        if byte_at(room, i) != 7 {
-            return false;
-        }
-        i += 1;
-    }
-    true
-}
-
-fn tell_unless(right: bool, what: &[u8]) {
-    if right {
-        return;
-    }
-    io::write_all(STDOUT_FILENO, what);
-}
-
-fn hex_digit(n: u8) -> u8 {
-    if n < 10 {
-        return 48 + n;
-    }
-    if n < 16 {
-        return 87 + n;
-    }
-    63
-}
-
-fn tell_one(b: u8) {
-    let one = [b];
-    io::write_all(STDOUT_FILENO, &one);
-}
 
 fn tell_escaped(b: u8) {
     io::write_all(STDOUT_FILENO, b"\\x");
-    tell_one(hex_digit(b / 16));
-    tell_one(hex_digit(b % 16));
+    tell_hex(b);
 }
 
 fn tell_byte(b: u8) {
@@ -137,14 +55,6 @@ fn has_length(r: Named, n: usize) -> bool {
         Named::Length(k) => k == n,
         Named::Refused(_g) => false,
     }
-}
-
-fn is_at_front(g: Refusal, number: u8) -> bool {
-    if g.number == number {
-        let place = g.place;
-        return place.at == 0;
-    }
-    false
 }
 
 fn is_refused(r: Named, number: u8) -> bool {
@@ -232,8 +142,7 @@ fn tell_text(row: usize, text: &[u8]) {
     let mut rows = [7u32; 26308];
     let mut strings = [7u8; 16385];
     let mut trits = [7u8; 393729];
-    let mut work = [7u32; 132609];
-    let r = read_text(text, &mut rows, &mut strings, &mut trits, &mut work);
+    let r = read_lent(text, &mut rows, &mut strings, &mut trits);
     tell_answer(r, row, &rows, &strings, &trits);
 }
 

@@ -3,98 +3,24 @@
 // times its place counted from 1, modulo 4,294,967,291. Rooms are lent full of 7. It tells where a byte past a text is changed, where a
 // room just as long as the text or one byte short is not answered as it must be, and where the text, read again, gives other tables.
 use ground::Refusal;
+use lending::accepted;
+use lending::read_lent;
+use lending::rooms::byte_at;
+use lending::rooms::is_at_front;
+use lending::rooms::kept;
+use lending::rooms::same_bytes;
+use lending::rooms::same_words;
+use lending::telling::tell_many;
+use lending::telling::tell_one;
+use lending::telling::tell_unless;
 use libc::STDIN_FILENO;
 use libc::STDOUT_FILENO;
 use printing::Printed;
 use printing::print_text;
 use reading::Read;
-use reading::read_text;
 use worked::find;
 use worked::put_text;
 use worked::tell_refused;
-ghost use Prim.Native.Nat.{_<_};
-
-fn plus(sum: u64, x: u32) -> u64
-    requires { ⌜ sum < 4294967291 ⌝ }
-    ensures { λ r. ⌜ r < 4294967291 ⌝ }
-{
-    (sum + (x as u64)) % 4294967291
-}
-
-fn plus_sum(sum: u64, x: u64) -> u64
-    requires { ⌜ (sum < 4294967291) × (x < 4294967291) ⌝ }
-    ensures { λ r. ⌜ r < 4294967291 ⌝ }
-{
-    (sum + x) % 4294967291
-}
-
-fn word_at(words: &[u32], at: usize) -> u32 {
-    if at < words.len() {
-        return words[at];
-    }
-    0
-}
-
-fn byte_at(bytes: &[u8], at: usize) -> u8 {
-    if at < bytes.len() {
-        return bytes[at];
-    }
-    0
-}
-
-// The sum of each of the first n bytes times its place: from the end on, the sum of all sums so far.
-fn sum_bytes(bytes: &[u8], n: usize) -> u64 {
-    let mut i = n;
-    let mut last: u64 = 0;
-    let mut sum: u64 = 0;
-    while 0 < i {
-        i -= 1;
-        last = plus(last, byte_at(bytes, i) as u32);
-        sum = plus_sum(sum, last);
-    }
-    sum
-}
-
-fn same_words(a: &[u32], b: &[u32], n: usize) -> bool {
-    let mut i: usize = 0;
-    while i < n {
-        if word_at(a, i) != word_at(b, i) {
-            return false;
-        }
-        i += 1;
-    }
-    true
-}
-
-fn same_bytes(a: &[u8], b: &[u8], n: usize) -> bool {
-    let mut i: usize = 0;
-    while i < n {
-        if byte_at(a, i) != byte_at(b, i) {
-            return false;
-        }
-        i += 1;
-    }
-    true
-}
-
-// Whether a room holds from the place on what it was lent with.
-fn kept(room: &[u8], from: usize) -> bool {
-    let mut i = from;
-    while i < room.len() {
-        if byte_at(room, i) != 7 {
-            return false;
-        }
-        i += 1;
-    }
-    true
-}
-
-fn tell_unless(right: bool, what: &[u8]) {
-    if right {
-        return;
-    }
-    io::write_all(STDOUT_FILENO, what);
-}
 
 fn tell_byte(b: u8) {
     if b == 10 {
@@ -105,8 +31,7 @@ fn tell_byte(b: u8) {
         io::write_all(STDOUT_FILENO, b"\\\\");
         return;
     }
-    let one = [b];
-    io::write_all(STDOUT_FILENO, &one);
+    tell_one(b);
 }
 
 fn tell_bytes(text: &[u8], n: usize) {
@@ -123,16 +48,7 @@ fn tell_canonical(room: &[u8], n: usize) {
         tell_bytes(room, n);
         return;
     }
-    io::print_decimal(STDOUT_FILENO, n as u64);
-    io::write_all(STDOUT_FILENO, b" bytes, sum ");
-    io::print_decimal(STDOUT_FILENO, sum_bytes(room, n));
-}
-
-fn accepted(r: Read) -> bool {
-    match r {
-        Read::Refused(_g) => false,
-        Read::Accepted => true,
-    }
+    tell_many(n, b" bytes", room, n);
 }
 
 fn has_length(r: Printed, n: usize) -> bool {
@@ -140,14 +56,6 @@ fn has_length(r: Printed, n: usize) -> bool {
         Printed::Length(k) => k == n,
         Printed::Refused(_g) => false,
     }
-}
-
-fn is_at_front(g: Refusal, number: u8) -> bool {
-    if g.number == number {
-        let place = g.place;
-        return place.at == 0;
-    }
-    false
 }
 
 fn is_refused(r: Printed, number: u8) -> bool {
@@ -203,14 +111,7 @@ fn tell_again(text: &[u8], rows: &[u32], strings: &[u8], trits: &[u8]) {
     let mut other_rows = [7u32; 26307];
     let mut other_strings = [7u8; 16384];
     let mut other_trits = [7u8; 393728];
-    let mut work = [7u32; 132608];
-    let r = read_text(
-        text,
-        &mut other_rows,
-        &mut other_strings,
-        &mut other_trits,
-        &mut work,
-    );
+    let r = read_lent(text, &mut other_rows, &mut other_strings, &mut other_trits);
     tell_unless(accepted(r), b" (refused when read again)");
     tell_unless(
         same_words(rows, &other_rows, 26307),
@@ -262,8 +163,7 @@ fn tell_text(text: &[u8]) {
     let mut rows = [7u32; 26308];
     let mut strings = [7u8; 16385];
     let mut trits = [7u8; 393729];
-    let mut work = [7u32; 132609];
-    let r = read_text(text, &mut rows, &mut strings, &mut trits, &mut work);
+    let r = read_lent(text, &mut rows, &mut strings, &mut trits);
     tell_answer(r, &rows, &strings, &trits);
 }
 

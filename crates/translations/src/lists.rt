@@ -1,35 +1,22 @@
 // A text's load list, told.
-use crate::telling::byte_at;
-use crate::telling::clear;
-use crate::telling::is_at_front;
-use crate::telling::kept;
-use crate::telling::lent;
-use crate::telling::same_bytes;
-use crate::telling::tell_many;
-use crate::telling::tell_unless;
 use ground::Refusal;
+use lending::read_lent;
+use lending::rooms::byte_at;
+use lending::rooms::clear;
+use lending::rooms::is_at_front;
+use lending::rooms::kept;
+use lending::rooms::lent;
+use lending::rooms::same_bytes;
+use lending::telling::tell_hex;
+use lending::telling::tell_many;
+use lending::telling::tell_unless;
 use libc::STDOUT_FILENO;
 use reading::Read;
-use reading::read_text;
 use translating::Translated;
 use translating::translate;
 use worked::put_text;
 use worked::tell_refused;
-ghost use Prim.Native.Nat.{_<_};
-
-fn digit(x: u8) -> u8
-    requires { ⌜ x < 16 ⌝ }
-{
-    if x < 10 {
-        return 48 + x;
-    }
-    87 + x
-}
-
-fn tell_hex(b: u8) {
-    let two = [digit(b / 16), digit(b % 16)];
-    io::write_all(STDOUT_FILENO, &two);
-}
+ghost use Prim.Native.Nat.{_<_, _≤_};
 
 // The blank before each record but the first.
 fn tell_gap(at: usize) {
@@ -73,22 +60,16 @@ fn is_refused(r: Translated, number: u8) -> bool {
     }
 }
 
-// A translation into the first n bytes of a room.
-fn translate_in(
-    rows: &[u32],
-    strings: &[u8],
-    trits: &[u8],
-    room: &mut [u8],
-    n: usize,
-    work: &mut [u32],
-) -> Translated {
-    if n <= room.len() {
-        return translate(rows, strings, trits, &mut room[0..n], work);
+fn least(a: usize, b: usize) -> usize
+    ensures { λ r. ⌜ r ≤ b ⌝ }
+{
+    if a < b {
+        return a;
     }
-    translate(rows, strings, trits, room, work)
+    b
 }
 
-// The same in work space of its own, which must be clear behind it.
+// A translation into the first n bytes of a room, in work space that must be clear behind it.
 fn translate_part(
     rows: &[u32],
     strings: &[u8],
@@ -97,7 +78,8 @@ fn translate_part(
     n: usize,
 ) -> Translated {
     let mut work = [7u32; 8193];
-    let r = translate_in(rows, strings, trits, room, n, &mut work);
+    let end = least(n, room.len());
+    let r = translate(rows, strings, trits, &mut room[0..end], &mut work);
     tell_unless(clear(&work, 8192), b" (work space is not clear)");
     r
 }
@@ -185,8 +167,7 @@ fn tell_text(text: &[u8]) {
     let mut rows = [7u32; 26308];
     let mut strings = [7u8; 16385];
     let mut trits = [7u8; 393729];
-    let mut work = [7u32; 132609];
-    let r = read_text(text, &mut rows, &mut strings, &mut trits, &mut work);
+    let r = read_lent(text, &mut rows, &mut strings, &mut trits);
     tell_answer(r, &rows, &strings, &trits);
 }
 

@@ -6,13 +6,12 @@
 // room or work space just long enough or one too short is not answered as it must be.
 mod lists;
 mod runs;
-mod telling;
 
+use lending::rooms::byte_at;
 use libc::STDIN_FILENO;
 use libc::STDOUT_FILENO;
 use lists::tell_list;
 use runs::tell_run;
-use telling::byte_at;
 use worked::find;
 
 fn tell_said(line: &[u8], said: &[u8]) {

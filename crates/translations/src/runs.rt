@@ -1,12 +1,13 @@
 // The run of a list, told.
-use crate::telling::byte_at;
-use crate::telling::is_at_front;
-use crate::telling::kept;
-use crate::telling::same_bytes;
-use crate::telling::tell_many;
-use crate::telling::tell_unless;
-use crate::telling::zero_from;
 use ground::Refusal;
+use lending::bits::put_bits;
+use lending::bits::tell_bits;
+use lending::rooms::is_at_front;
+use lending::rooms::kept;
+use lending::rooms::same_bytes;
+use lending::rooms::zero_from;
+use lending::telling::tell_many;
+use lending::telling::tell_unless;
 use libc::STDOUT_FILENO;
 use loadlist::Ran;
 use running::run;
@@ -17,47 +18,6 @@ use worked::put_text;
 use worked::tell_refused;
 ghost use Prim.Native.Nat.{_<_, _≤_};
 ghost use lib.ListN.{length};
-
-fn bit_of(b: u8) -> u8 {
-    if b == 48 {
-        return 0;
-    }
-    if b == 49 {
-        return 1;
-    }
-    if b == 88 {
-        return 2;
-    }
-    3
-}
-
-fn letter_of(bit: u8) -> u8 {
-    if bit == 0 {
-        return 48;
-    }
-    if bit == 1 {
-        return 49;
-    }
-    if bit == 2 {
-        return 88;
-    }
-    63
-}
-
-// The bits that the letters before a place say, as many as there is room for.
-fn put_bits(letters: &[u8], end: usize, room: &mut [u8]) -> usize
-    ensures { λ n. ⌜ n ≤ length (now (room .entry)) ⌝ }
-{
-    let mut i: usize = 0;
-    while i < end {
-        if room.len() <= i {
-            return i;
-        }
-        room[i] = bit_of(byte_at(letters, i));
-        i += 1;
-    }
-    i
-}
 
 // The byte that two digits at a place say; a blank says none.
 fn put_pair(text: &[u8], at: usize, room: &mut [u8], n: usize) -> Spot
@@ -94,23 +54,10 @@ fn put_list(text: &[u8], room: &mut [u8]) -> usize
     n
 }
 
-fn tell_one(b: u8) {
-    let one = [b];
-    io::write_all(STDOUT_FILENO, &one);
-}
-
-fn tell_each(bits: &[u8], n: usize) {
-    let mut i: usize = 0;
-    while i < n {
-        tell_one(letter_of(byte_at(bits, i)));
-        i += 1;
-    }
-}
-
 // The first n bits, or their number and sum where they are many.
-fn tell_bits(bits: &[u8], n: usize) {
+fn tell_all_bits(bits: &[u8], n: usize) {
     if n <= 256 {
-        tell_each(bits, n);
+        tell_bits(bits, n);
         return;
     }
     tell_many(n, b" bits", bits, n);
@@ -189,9 +136,9 @@ fn tell_narrow(list: &[u8], ins: &[u8]) {
 
 fn tell_outputs(list: &[u8], ins: &[u8], outs: &[u8], n: usize, work: &[u8]) {
     let count = list.len() / 8;
-    tell_bits(outs, n);
+    tell_all_bits(outs, n);
     io::write_all(STDOUT_FILENO, b", slots ");
-    tell_bits(work, count);
+    tell_all_bits(work, count);
     tell_unless(kept(outs, n), b" (past the answer)");
     tell_unless(
         zero_from(work, count, 8192),

@@ -6,7 +6,7 @@ use Rattle.printings.proofs.tell_bytes.Statement.{statement}
 use Rattle.printings.proofs.tell_bytes.Tie as tie
 use Rattle.printings.proofs.tell_bytes.Reads as reads
 use Rattle.printings.proofs.tell_bytes.Lts as lts
-use Rattle.printings.proofs.byte_at.Reads as byte-at-reads
+use Rattle.lending.proofs.rooms.byte_at.Reads as byte-at-reads
 use Rattle.printings.proofs.tell_byte.Reads as tell-byte-reads
 
 abbrev Inv-loop : tie.InvT-loop

@@ -7,8 +7,8 @@ use Rattle.translations.proofs.lists.tell_bytes.Tie as tie
 use Rattle.translations.proofs.lists.tell_bytes.Reads as reads
 use Rattle.translations.proofs.lists.tell_bytes.Lts as lts
 use Rattle.translations.proofs.lists.tell_gap.Reads as tell-gap-reads
-use Rattle.translations.proofs.lists.tell_hex.Reads as tell-hex-reads
-use Rattle.translations.proofs.telling.byte_at.Reads as byte-at-reads
+use Rattle.lending.proofs.telling.tell_hex.Reads as tell-hex-reads
+use Rattle.lending.proofs.rooms.byte_at.Reads as byte-at-reads
 
 abbrev Inv-loop : tie.InvT-loop
 Inv-loop list n i₀ i = i ≤ n
