@@ -2,9 +2,9 @@
 // 01's example. On any refusal, of reading or of translation, it writes one line, `refused N at P`, and nothing else: nothing is written
 // before all has succeeded. It reads the list through the record reader. Reading, printing and translating stand below it.
 use ground::Refusal;
+use hexlines::tell_list;
 use libc::STDIN_FILENO;
 use libc::STDOUT_FILENO;
-use hexlines::tell_list;
 use printing::Printed;
 use printing::print_text;
 use reading::Read;
