@@ -5,6 +5,12 @@
 use checking::check_tables;
 use checking::lookup_io;
 use ground::Refusal;
+use lending::accepted;
+use lending::numbers::number;
+use lending::read_lent;
+use lending::rooms::byte_at;
+use lending::rooms::kept;
+use lending::telling::tell_unless;
 use libc::STDIN_FILENO;
 use libc::STDOUT_FILENO;
 use netlist::Checked;
@@ -12,54 +18,9 @@ use netlist::Found;
 use printing::Printed;
 use printing::print_text;
 use reading::Read;
-use reading::read_text;
 use worked::find;
 use worked::put_text;
 use worked::tell_refused;
-ghost use Prim.Native.Nat.{_≤_};
-
-fn byte_at(bytes: &[u8], at: usize) -> u8 {
-    if at < bytes.len() {
-        return bytes[at];
-    }
-    0
-}
-
-fn digit(b: u8) -> u64
-    ensures { λ r. ⌜ r ≤ 9 ⌝ }
-{
-    if b < 48 {
-        return 0;
-    }
-    if b < 58 {
-        return (b - 48) as u64;
-    }
-    0
-}
-
-// A number with a digit behind it; one of ten digits grows no more.
-fn grown(n: u64, digit: u64) -> u64
-    requires { ⌜ (n ≤ 10000000000) × (digit ≤ 9) ⌝ }
-    ensures { λ r. ⌜ r ≤ 10000000000 ⌝ }
-{
-    if n < 1000000000 {
-        return n * 10 + digit;
-    }
-    n
-}
-
-// The number that the bytes from one place to another say; a letter and a colon before it count for nothing.
-fn number(bytes: &[u8], from: usize, end: usize) -> u64
-    ensures { λ r. ⌜ r ≤ 10000000000 ⌝ }
-{
-    let mut n: u64 = 0;
-    let mut i = from;
-    while i < end {
-        n = grown(n, digit(byte_at(bytes, i)));
-        i += 1;
-    }
-    n
-}
 
 fn as_word(n: u64) -> u32 {
     if n < 4294967296 {
@@ -115,24 +76,6 @@ fn alter(alterations: &[u8], rows: &mut [u32], strings: &mut [u8], trits: &mut [
     }
 }
 
-fn kept(room: &[u8]) -> bool {
-    let mut i: usize = 0;
-    while i < room.len() {
-        if byte_at(room, i) != 7 {
-            return false;
-        }
-        i += 1;
-    }
-    true
-}
-
-fn tell_unless(right: bool, what: &[u8]) {
-    if right {
-        return;
-    }
-    io::write_all(STDOUT_FILENO, what);
-}
-
 fn same_refusal(g: Refusal, h: Refusal) -> bool {
     if g.number == h.number {
         let place = g.place;
@@ -176,7 +119,7 @@ fn tell_bad(g: Refusal, rows: &[u32], strings: &[u8], trits: &[u8]) {
     tell_refused(g);
     let r = print_text(rows, strings, trits, &mut room);
     tell_unless(print_refuses(r, g), b" (printing answers otherwise)");
-    tell_unless(kept(&room), b" (printing changes the room)");
+    tell_unless(kept(&room, 0), b" (printing changes the room)");
     let f = lookup_io(rows, strings, trits, b"a");
     tell_unless(lookup_refuses(f, g), b" (the lookup answers otherwise)");
 }
@@ -198,19 +141,11 @@ fn tell_check(rows: &[u32], strings: &[u8], trits: &[u8]) {
     }
 }
 
-fn accepted(r: Read) -> bool {
-    match r {
-        Read::Refused(_g) => false,
-        Read::Accepted => true,
-    }
-}
-
 fn tell_altered(alterations: &[u8], text: &[u8]) {
     let mut rows = [7u32; 26308];
     let mut strings = [7u8; 16385];
     let mut trits = [7u8; 393729];
-    let mut work = [7u32; 132609];
-    let r = read_text(text, &mut rows, &mut strings, &mut trits, &mut work);
+    let r = read_lent(text, &mut rows, &mut strings, &mut trits);
     tell_unless(accepted(r), b"not read: ");
     alter(alterations, &mut rows, &mut strings, &mut trits);
     tell_check(&rows, &strings, &trits);

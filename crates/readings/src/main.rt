@@ -2,6 +2,13 @@
 // reading answers: a refusal with its place, or the numbers of rows and a sum over each table, every word times its place counted from
 // 1, modulo 4,294,967,291. The slices are lent one word or byte too long and hold 7 everywhere; what a call leaves that it must not leave is told.
 use ground::Refusal;
+use lending::rooms::all_bytes;
+use lending::rooms::all_words;
+use lending::rooms::byte_at;
+use lending::rooms::word_at;
+use lending::telling::sum_bytes;
+use lending::telling::sum_words;
+use lending::telling::tell_unless;
 use libc::STDIN_FILENO;
 use libc::STDOUT_FILENO;
 use reading::Read;
@@ -9,89 +16,6 @@ use reading::read_text;
 use worked::find;
 use worked::put_text;
 use worked::tell_refused;
-ghost use Prim.Native.Nat.{_<_};
-
-fn plus(sum: u64, x: u32) -> u64
-    requires { ⌜ sum < 4294967291 ⌝ }
-    ensures { λ r. ⌜ r < 4294967291 ⌝ }
-{
-    (sum + (x as u64)) % 4294967291
-}
-
-fn plus_sum(sum: u64, x: u64) -> u64
-    requires { ⌜ (sum < 4294967291) × (x < 4294967291) ⌝ }
-    ensures { λ r. ⌜ r < 4294967291 ⌝ }
-{
-    (sum + x) % 4294967291
-}
-
-fn word_at(words: &[u32], at: usize) -> u32 {
-    if at < words.len() {
-        return words[at];
-    }
-    0
-}
-
-fn byte_at(bytes: &[u8], at: usize) -> u8 {
-    if at < bytes.len() {
-        return bytes[at];
-    }
-    0
-}
-
-// The sum of each of the first n words times its place: from the end on, the sum of all sums so far.
-fn sum_words(words: &[u32], n: usize) -> u64 {
-    let mut i = n;
-    let mut last: u64 = 0;
-    let mut sum: u64 = 0;
-    while 0 < i {
-        i -= 1;
-        last = plus(last, word_at(words, i));
-        sum = plus_sum(sum, last);
-    }
-    sum
-}
-
-fn sum_bytes(bytes: &[u8], n: usize) -> u64 {
-    let mut i = n;
-    let mut last: u64 = 0;
-    let mut sum: u64 = 0;
-    while 0 < i {
-        i -= 1;
-        last = plus(last, byte_at(bytes, i) as u32);
-        sum = plus_sum(sum, last);
-    }
-    sum
-}
-
-fn clear_words(words: &[u32], n: usize) -> bool {
-    let mut i: usize = 0;
-    while i < n {
-        if word_at(words, i) != 0 {
-            return false;
-        }
-        i += 1;
-    }
-    true
-}
-
-fn clear_bytes(bytes: &[u8], n: usize) -> bool {
-    let mut i: usize = 0;
-    while i < n {
-        if byte_at(bytes, i) != 0 {
-            return false;
-        }
-        i += 1;
-    }
-    true
-}
-
-fn tell_unless(kept: bool, what: &[u8]) {
-    if kept {
-        return;
-    }
-    io::write_all(STDOUT_FILENO, what);
-}
 
 fn tell_count(count: u32, what: &[u8]) {
     io::print_decimal(STDOUT_FILENO, count as u64);
@@ -114,9 +38,9 @@ fn tell_tables(rows: &[u32], strings: &[u8], trits: &[u8]) {
 
 fn tell_refusal(g: Refusal, rows: &[u32], strings: &[u8], trits: &[u8]) {
     tell_refused(g);
-    tell_unless(clear_words(rows, 26307), b" (rows not cleared)");
-    tell_unless(clear_bytes(strings, 16384), b" (strings not cleared)");
-    tell_unless(clear_bytes(trits, 393728), b" (trits not cleared)");
+    tell_unless(all_words(rows, 26307, 0), b" (rows not cleared)");
+    tell_unless(all_bytes(strings, 0, 16384, 0), b" (strings not cleared)");
+    tell_unless(all_bytes(trits, 0, 393728, 0), b" (trits not cleared)");
 }
 
 fn tell_answer(r: Read, rows: &[u32], strings: &[u8], trits: &[u8]) {
@@ -127,7 +51,7 @@ fn tell_answer(r: Read, rows: &[u32], strings: &[u8], trits: &[u8]) {
 }
 
 fn tell_past(rows: &[u32], strings: &[u8], trits: &[u8], work: &[u32]) {
-    tell_unless(clear_words(work, 132608), b" (work space not cleared)");
+    tell_unless(all_words(work, 132608, 0), b" (work space not cleared)");
     tell_unless(word_at(rows, 26307) == 7, b" (past the rows)");
     tell_unless(byte_at(strings, 16384) == 7, b" (past the strings)");
     tell_unless(byte_at(trits, 393728) == 7, b" (past the trits)");
