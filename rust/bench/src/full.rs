@@ -151,6 +151,38 @@ pub fn alike_netlist(size: usize, _: u64) -> Vec<u8> {
     crate::fill_with_comments(text.into_bytes(), size)
 }
 
+/// The name that has `Aa` or `BB` for each of sixteen bits, which many simple sums over the bytes of a name do not tell apart.
+fn paired_name(number: usize) -> String {
+    (0..16).map(|bit| if number >> bit & 1 == 0 { "Aa" } else { "BB" }).collect()
+}
+
+/// The same with names of 32 bytes made of the pairs `Aa` and `BB`.
+pub fn paired_netlist(size: usize, _: u64) -> Vec<u8> {
+    let mut text = String::with_capacity(size + 64);
+    for number in 0..512 {
+        let line = format!("%{number}:1 = input \"{}\"\n", paired_name(number));
+        if text.len() + line.len() + 2 > size {
+            break;
+        }
+        text.push_str(&line);
+    }
+    crate::fill_with_comments(text.into_bytes(), size)
+}
+
+/// A netlist of exactly `size` bytes that the reader accepts: up to 64 pads with names of 240 bytes that differ in the last three.
+pub fn pads_netlist(size: usize, _: u64) -> Vec<u8> {
+    let front = "grader_lane7/weigher/channel_".repeat(9);
+    let mut text = String::with_capacity(size + 512);
+    for number in 0..64 {
+        let line = format!("&\"{}{number:03}\":1 = io\n", &front[..237]);
+        if text.len() + line.len() + 2 > size {
+            break;
+        }
+        text.push_str(&line);
+    }
+    crate::fill_with_comments(text.into_bytes(), size)
+}
+
 #[cfg(test)]
 mod tests {
     use super::*;
@@ -163,6 +195,16 @@ mod tests {
             let tables = reference::read(&text).expect("accepted");
             assert!(tables.rows[2] >= inputs, "{} inputs", tables.rows[2]);
             assert_eq!(tables.strings.iter().filter(|byte| **byte != 0).count(), 32 * tables.rows[2] as usize);
+        }
+    }
+
+    #[test]
+    fn paired_names_and_pads_are_accepted() {
+        for (kib, inputs, pads) in [(4, 80, 15), (16, 300, 60), (64, 512, 64)] {
+            let paired = reference::read(&paired_netlist(kib << 10, 0)).expect("accepted");
+            assert!(paired.rows[2] >= inputs, "{} inputs", paired.rows[2]);
+            let alike = reference::read(&pads_netlist(kib << 10, 0)).expect("accepted");
+            assert!(alike.rows[1] >= pads, "{} pads", alike.rows[1]);
         }
     }
 

@@ -8,7 +8,7 @@ mod netlist;
 mod wired;
 
 pub use any::{any_netlist, changed};
-pub use full::{alike_netlist, full_netlist};
+pub use full::{alike_netlist, full_netlist, pads_netlist, paired_netlist};
 pub use netlist::netlist;
 pub use wired::{any_wired, turned_netlist, wired_netlist};
 

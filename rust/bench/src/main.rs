@@ -118,6 +118,8 @@ fn only(name: &str, kib: usize, calls: u32) {
         "reference-read-own" => (read::reference_kept(), bench::full_netlist),
         "library-alike" => (read::library(), bench::alike_netlist),
         "reference-alike" => (read::reference(), bench::alike_netlist),
+        "library-pairs" => (read::library(), bench::paired_netlist),
+        "reference-pairs" => (read::reference(), bench::paired_netlist),
         "library-check" => (tables::library_check(), bench::full_netlist),
         "reference-check" => (tables::reference_check(), bench::full_netlist),
         "library-check-alike" => (tables::library_check(), bench::alike_netlist),

@@ -40,5 +40,7 @@ pub fn lines() -> Vec<Line> {
         line("read", reference(), Limit::AtFull(1.5), bench::full_netlist),
         line("read, own work space", reference_kept(), Limit::None, bench::full_netlist),
         line("read, names alike", reference(), Limit::None, bench::alike_netlist),
+        line("read, names in pairs", reference(), Limit::None, bench::paired_netlist),
+        line("read, pads alike", reference(), Limit::None, bench::pads_netlist),
     ]
 }

@@ -70,6 +70,8 @@ pub fn lines() -> Vec<Line> {
     vec![
         line("check", library_check(), reference_check(), limit, bench::full_netlist),
         line("check, names alike", library_check(), reference_check(), limit, bench::alike_netlist),
+        line("check, names in pairs", library_check(), reference_check(), limit, bench::paired_netlist),
+        line("check, pads alike", library_check(), reference_check(), limit, bench::pads_netlist),
         line("print", library_print(), reference_print(), limit, bench::full_netlist),
         line("print, own buffer", library_print(), reference_print_kept(), Limit::None, bench::full_netlist),
     ]
