@@ -15,7 +15,7 @@ use Rattle.netlist.specs.Good.{short, good, checkOf, netlistIn}
 use Rattle.placing.specs.Placing.{ringed}
 use Rattle.netlist.specs.declared.Checked.{Checked}
 use Rattle.netlist.specs.declared.Checked.the-variants as checked
-use Rattle.printing.specs.Lines.{canonical}
+use Rattle.lines.specs.Lines.{canonical}
 use Rattle.printing.specs.Outcome as printing
 use Rattle.printing.specs.declared.Printed.{Printed}
 use Rattle.printing.specs.declared.Printed.the-variants as printed
