@@ -9,6 +9,7 @@
 
 #![forbid(unsafe_code)]
 
+pub mod cases;
 #[cfg(test)]
 mod examples;
 pub mod lines;

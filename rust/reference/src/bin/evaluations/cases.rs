@@ -1,14 +1,9 @@
 //! Worked netlists and settings, each with the output bits or the refusal that the documents give it, apart from any evaluator.
 
-pub struct Case {
-    /// `BITS |TEXT`.
-    pub line: String,
-    /// None where the plain evaluator alone says it.
-    pub answer: Option<String>,
-}
+use reference::cases::Case;
 
 pub fn all() -> Vec<Case> {
-    let mut cases = listed(LINES);
+    let mut cases: Vec<Case> = listed(LINES).collect();
     cases.extend(listed(RINGS));
     cases.extend(listed(ORDERS));
     cases.extend(listed(REFUSALS));
@@ -20,12 +15,8 @@ pub fn all() -> Vec<Case> {
 }
 
 /// Cases one a line: `BITS |TEXT => ANSWER`.
-fn listed(list: &str) -> Vec<Case> {
-    let case = |line: &str| {
-        let (line, answer) = line.split_once(" =>").unwrap_or_else(|| panic!("no case: {line}"));
-        Case { line: line.into(), answer: Some(answer.trim_start().into()) }
-    };
-    list.lines().filter(|line| !line.is_empty()).map(case).collect()
+fn listed(list: &str) -> impl Iterator<Item = Case> + '_ {
+    reference::cases::listed(list).map(|(line, answer)| Case::new(line, answer))
 }
 
 /// Document 01, 'Lines between yes and no' and 'Errors that look reasonable'.
@@ -107,9 +98,9 @@ fn truth_tables() -> Vec<Case> {
     let lines = |(word, operands, values): (&'static str, usize, &'static str)| {
         let text: String = (0..operands).map(|n| format!("%{n}:1 = input \"{n}\"\\n")).collect();
         let reads: String = (0..operands).map(|n| format!(" %{n}")).collect();
-        values.chars().enumerate().map(move |(setting, value)| Case {
-            line: format!("{} |{text}%8:1 = {word}{reads}\\n%9:0 = output \"y\" %8\\n", letters(setting, operands)),
-            answer: Some(value.into()),
+        values.chars().enumerate().map(move |(setting, value)| {
+            let line = format!("{} |{text}%8:1 = {word}{reads}\\n%9:0 = output \"y\" %8\\n", letters(setting, operands));
+            Case::new(line, value)
         })
     };
     TABLES.into_iter().flat_map(lines).collect()
@@ -124,18 +115,17 @@ const SUMS: &str = "00 10 X0 10 01 XX X0 XX XX 10 01 XX 01 11 X1 XX X1 XX X0 XX 
 
 fn adders() -> Vec<Case> {
     let text = r#"%0:1 = input "a"\n%1:1 = input "b"\n%2:1 = input "c"\n%3:2 = adc %0 %1 %2\n%5:0 = output "y" %3:2\n"#;
-    let case =
-        |(setting, value): (usize, &str)| Case { line: format!("{} |{text}", letters(setting, 3)), answer: Some(value.into()) };
+    let case = |(setting, value): (usize, &str)| Case::new(format!("{} |{text}", letters(setting, 3)), value);
     SUMS.split(' ').enumerate().map(case).collect()
 }
 
 /// 510 inverters, each of the next one, the last of an input.
 fn reversed() -> Case {
     let cells: String = (0..510).map(|n| format!("%{n}:1 = not %{}\\n", n + 1)).collect();
-    Case { line: format!("1 |{cells}%510:1 = input \"a\"\\n%511:0 = output \"y\" [%0 %1]\\n"), answer: Some("01".into()) }
+    Case::new(format!("1 |{cells}%510:1 = input \"a\"\\n%511:0 = output \"y\" [%0 %1]\\n"), "01")
 }
 
 fn ring_of_all() -> Case {
     let cells: String = (0..512).map(|n| format!("%{n}:1 = buf %{}\\n", (n + 1) % 512)).collect();
-    Case { line: format!(" |{cells}"), answer: Some("refused 20 at 0".into()) }
+    Case::new(format!(" |{cells}"), "refused 20 at 0")
 }

@@ -1,6 +1,6 @@
 //! Wide cells on settings drawn by chance, worked out by the plain evaluator bit by bit.
 
-use crate::cases::Case;
+use reference::cases::{cell_text, Case};
 
 pub fn all() -> Vec<Case> {
     let mut chance = Chance(1);
@@ -23,19 +23,6 @@ impl Chance {
 }
 
 fn case(word: &str, width: usize, chance: &mut Chance) -> Case {
-    let widths: &[usize] = match word {
-        "buf" | "not" => &[width],
-        "mux" => &[1, width, width],
-        "adc" => &[width, width, 1],
-        _ => &[width, width],
-    };
-    let made = match word {
-        "adc" => width + 1,
-        "eq" | "ult" | "slt" => 1,
-        _ => width,
-    };
-    let text: String = widths.iter().enumerate().map(|(n, width)| format!("%{n}:{width} = input \"{n}\"\\n")).collect();
-    let reads: String = widths.iter().enumerate().map(|(n, width)| format!(" %{n}:{width}")).collect();
-    let bits = chance.bits(widths.iter().sum());
-    Case { line: format!("{bits} |{text}%8:{made} = {word}{reads}\\n%9:0 = output \"y\" %8:{made}\\n"), answer: None }
+    let (text, inputs) = cell_text(word, width);
+    Case::begins(format!("{} |{text}", chance.bits(inputs)), "")
 }

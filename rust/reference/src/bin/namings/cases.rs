@@ -1,10 +1,6 @@
 //! Rows of worked texts, each with the name or the refusal that the documents give it, apart from any reader.
 
-pub struct Case {
-    /// `ROW |TEXT`.
-    pub line: String,
-    pub answer: String,
-}
+use reference::cases::Case;
 
 pub fn all() -> Vec<Case> {
     let mut cases = listed(NAMES);
@@ -19,7 +15,7 @@ pub fn all() -> Vec<Case> {
 fn listed(list: &str) -> Vec<Case> {
     let case = |line: &str| {
         let (line, answer) = line.split_once(" => ").unwrap_or_else(|| panic!("no case: {line}"));
-        Case { line: line.into(), answer: answer.into() }
+        Case::new(line, answer)
     };
     list.lines().filter(|line| !line.is_empty()).map(case).collect()
 }
@@ -113,8 +109,8 @@ fn long(letter: &str, size: usize) -> Own {
     (format!("\"\\{{{size}|{letter}}}\""), letter.repeat(size))
 }
 
-/// Scopes one inside the other, and an ident in the last.
-fn chain(scopes: &[Own], ident: Own) -> Case {
+/// Scopes one inside the other, and an ident in the last: its line, and its full name.
+fn chain(scopes: &[Own], ident: Own) -> (String, String) {
     let (mut text, mut answer) = (String::new(), String::new());
     for (row, (said, name)) in scopes.iter().enumerate() {
         let inside = if row == 0 { String::new() } else { format!(" in=!{}", row - 1) };
@@ -123,7 +119,7 @@ fn chain(scopes: &[Own], ident: Own) -> Case {
     }
     let row = scopes.len();
     let line = format!("{row} |{text}!{row} = ident {} in=!{}\\n", ident.0, row - 1);
-    Case { line, answer: answer + &ident.1 }
+    (line, answer + &ident.1)
 }
 
 fn chains() -> Vec<Case> {
@@ -134,6 +130,7 @@ fn chains() -> Vec<Case> {
     let mut longest = vec![long("n", 255); 64];
     longest.resize(511, indexed(i32::MIN));
     let longest = chain(&longest, long("x", 16_384 - 64 * 255));
-    assert_eq!(longest.answer.len(), 16_384 + 447 * 11 + 511);
-    vec![chain(&numbered, named("x")), chain(&mixed, named("x")), longest]
+    assert_eq!(longest.1.len(), 16_384 + 447 * 11 + 511);
+    let chains = [chain(&numbered, named("x")), chain(&mixed, named("x")), longest];
+    chains.into_iter().map(|(line, name)| Case::new(line, name)).collect()
 }

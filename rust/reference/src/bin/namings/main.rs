@@ -7,10 +7,9 @@
 
 mod cases;
 
+use reference::cases::print;
 use reference::reading::full_name;
 use reference::{lines, read, Refusal};
-use std::collections::HashSet;
-use std::io::Write;
 
 /// A name as a line: bytes 20-7E but the backslash stand for themselves.
 fn told(name: &[u8]) -> String {
@@ -34,36 +33,5 @@ fn answer(line: &str) -> Result<String, String> {
 }
 
 fn main() -> std::io::Result<()> {
-    let word = std::env::args().nth(1).unwrap_or_default();
-    let mut out = Vec::new();
-    let mut seen = HashSet::new();
-    let mut wrong = 0;
-    for case in cases::all() {
-        let fault = match answer(&case.line) {
-            Err(fault) => Some(fault),
-            Ok(answer) if answer != case.answer => Some(format!("the documents say: {}, the reader {answer}", case.answer)),
-            Ok(_) if !seen.insert(case.line.clone()) => Some("listed twice".into()),
-            Ok(_) => None,
-        };
-        if let Some(fault) = fault {
-            wrong += 1;
-            eprintln!("{}\n    {fault}", case.line);
-        }
-        match word.as_str() {
-            "stdin" => writeln!(out, "{}", case.line)?,
-            "stdout" => writeln!(out, "{} -> {}", case.line, case.answer)?,
-            _ => {}
-        }
-    }
-    if wrong > 0 {
-        eprintln!("{wrong} cases differ from the documents");
-        std::process::exit(1);
-    }
-    if out.is_empty() {
-        eprintln!(
-            "{} names and refusals, each as the documents give it; `namings stdin` or `namings stdout` prints them",
-            seen.len()
-        );
-    }
-    std::io::stdout().write_all(&out)
+    print(cases::all(), answer)
 }

@@ -1,7 +1,8 @@
 //! Document 01's worked list with something changed in it, and each of its fronts, run on 1 and 0.
 
-use crate::case::{begins, bytes, case, hex, Case};
+use crate::hex::{bytes, hex};
 use crate::kinds::SUM_LIST;
+use reference::cases::Case;
 
 /// The slots of the whole list, worked out by hand; its outputs are the last two.
 const SLOTS: &str = "01X1011010010";
@@ -17,10 +18,10 @@ pub fn cases() -> Vec<Case> {
     }
     cases.extend((0..list.len()).map(|size| front(&list, size)));
     for (bits, records) in [("", 1), ("", 2), ("", 3), ("1", 4)] {
-        cases.push(case(format!("run {bits} |{}", hex(&list[..8 * records])), format!(", slots {}", &SLOTS[..records])));
+        cases.push(Case::new(format!("run {bits} |{}", hex(&list[..8 * records])), format!(", slots {}", &SLOTS[..records])));
     }
     for behind in [&b"\x47"[..], b"\x47\x53\x00\x00\x00\x00\x00", b"\x00"] {
-        cases.push(case(format!("run 10 |{}", hex(&[&list, behind].concat())), "refused 22 at 104"));
+        cases.push(Case::new(format!("run 10 |{}", hex(&[&list, behind].concat())), "refused 22 at 104"));
     }
     cases
 }
@@ -32,7 +33,7 @@ fn changed(list: &[u8], at: usize, byte: u8) -> Vec<u8> {
 }
 
 fn bad(list: &[u8], k: usize) -> Case {
-    case(format!("run 10 |{}", hex(list)), format!("refused 22 at {}", 8 * k))
+    Case::new(format!("run 10 |{}", hex(list)), format!("refused 22 at {}", 8 * k))
 }
 
 /// Each bit of the mark and of the byte that is 0.
@@ -78,7 +79,7 @@ fn moved(list: &[u8], k: usize) -> Vec<Case> {
 
 /// What the plain runner alone says.
 fn open(list: &[u8]) -> Case {
-    begins(format!("run 10 |{}", hex(list)), "")
+    Case::begins(format!("run 10 |{}", hex(list)), "")
 }
 
 /// The list cut off: its last record is a part, or too few inputs are left for the setting.
@@ -90,5 +91,5 @@ fn front(list: &[u8], size: usize) -> Case {
         12 => format!("1, slots {}", &SLOTS[..12]),
         _ => format!(", slots {}", &SLOTS[..records]),
     };
-    case(format!("run 10 |{}", hex(&list[..size])), answer)
+    Case::new(format!("run 10 |{}", hex(&list[..size])), answer)
 }

@@ -1,6 +1,7 @@
 //! Document 01's worked list, and the exact records of every kind at widths 1, 2 and 3, written by hand.
 
-use crate::case::{case, listed, said, Case, CONSTANTS};
+use crate::hex::{said, CONSTANTS};
+use reference::cases::{cell_text, listed, Case};
 
 /// The text and the list of document 01's listing, byte for byte.
 pub const SUM: &str = r#"%9:1 = input "a"\n%3:1 = input "b"\n%0:2 = adc %9 %3 0\n%7:0 = output "sum" [%0+1 %0+0]\n"#;
@@ -9,8 +10,8 @@ pub const SUM_LIST: &str = "\
 4753050003000400 4753060003000400 4753050008000000 4753060007000900 4753080006000000 475308000a000100";
 
 pub fn cases() -> Vec<Case> {
-    let mut cases = vec![case(format!("list |{SUM}"), SUM_LIST)];
-    cases.extend(listed(ONE).map(|(line, list)| case(line, format!("{CONSTANTS} {list}"))));
+    let mut cases = vec![Case::new(format!("list |{SUM}"), SUM_LIST)];
+    cases.extend(listed(ONE).map(|(line, list)| Case::new(line, format!("{CONSTANTS} {list}"))));
     let widths = [(2, TWO), (3, THREE)];
     cases.extend(widths.into_iter().flat_map(|(width, list)| listed(list).map(move |(word, list)| wide(word, width, list))));
     cases
@@ -64,25 +65,12 @@ ult => not 3, and 9 6, or 9 6, and 11 0, or 10 12, not 4, and 14 7, or 14 7, and
 slt => not 3, and 9 6, or 9 6, and 11 0, or 10 12, not 4, and 14 7, or 14 7, and 16 13, or 15 17, not 8, and 5 19, or 5 19, and 21 18, or 20 22, out 23 0
 ";
 
-/// A kind over inputs of this width (a mux's first and an adc's third is one bit wide), and its records behind theirs.
+/// A kind over inputs of this width, and its records behind theirs; of an input only itself, given out.
 fn wide(word: &str, width: usize, list: &str) -> Case {
-    let widths: &[usize] = match word {
-        "input" | "buf" | "not" => &[width],
-        "mux" => &[1, width, width],
-        "adc" => &[width, width, 1],
-        _ => &[width, width],
+    let (text, inputs) = match word {
+        "input" => (format!("%0:{width} = input \"0\"\\n%9:0 = output \"y\" %0:{width}\\n"), width),
+        _ => cell_text(word, width),
     };
-    let made = match word {
-        "adc" => width + 1,
-        "eq" | "ult" | "slt" => 1,
-        _ => width,
-    };
-    let inputs: String = widths.iter().enumerate().map(|(n, width)| format!("%{n}:{width} = input \"{n}\"\\n")).collect();
-    let reads: String = widths.iter().enumerate().map(|(n, width)| format!(" %{n}:{width}")).collect();
-    let bits: String = (0..widths.iter().sum()).map(|bit: usize| format!("in {bit}, ")).collect();
-    let text = match word {
-        "input" => format!("{inputs}%9:0 = output \"y\" %0:{made}\\n"),
-        _ => format!("{inputs}%8:{made} = {word}{reads}\\n%9:0 = output \"y\" %8:{made}\\n"),
-    };
-    case(format!("list |{text}"), format!("{CONSTANTS} {}", said(&format!("{bits}{list}"))))
+    let bits: String = (0..inputs).map(|bit| format!("in {bit}, ")).collect();
+    Case::new(format!("list |{text}"), format!("{CONSTANTS} {}", said(&format!("{bits}{list}"))))
 }

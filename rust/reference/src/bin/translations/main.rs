@@ -6,17 +6,16 @@
 
 #![forbid(unsafe_code)]
 
-mod case;
 mod damaged;
+mod hex;
 mod kinds;
 mod runs;
 mod texts;
 
-use case::{bits, bytes, hex, letters, Answer, Case};
+use hex::{bytes, hex};
+use reference::cases::{bits, letters, print, Case};
 use reference::reading::{evaluate, run, translate};
 use reference::{lines, read, Refusal, Tables};
-use std::collections::HashSet;
-use std::io::Write;
 
 fn all() -> Vec<Case> {
     let mut cases = kinds::cases();
@@ -37,7 +36,7 @@ fn answer(line: &str) -> Result<String, String> {
         },
         (_, Some(letters)) => {
             let list = bytes(&said).filter(|list| list.len() <= 70_000 && said.len() <= 140_000).ok_or("no list")?;
-            let ins = bits(letters).filter(|ins| ins.len() <= 5_000).ok_or("no bits")?;
+            let ins = bits(letters).ok_or("no bits")?;
             run(&list, &ins).map(|ran| format!("{}, slots {}", many_bits(&ran.outputs), many_bits(&ran.slots)))
         }
         _ => return Err("neither a list nor a run, or too long".into()),
@@ -71,37 +70,5 @@ fn many_bits(bits: &[u8]) -> String {
 }
 
 fn main() -> std::io::Result<()> {
-    let word = std::env::args().nth(1).unwrap_or_default();
-    let mut out = Vec::new();
-    let mut seen = HashSet::new();
-    let mut wrong = 0;
-    for case in all() {
-        let told = answer(&case.line);
-        let fault = match (&told, &case.answer) {
-            (Err(fault), _) => Some(fault.clone()),
-            (Ok(told), Answer::Is(answer)) if told != answer => {
-                Some(format!("the documents say: {answer}, the second look {told}"))
-            }
-            (Ok(told), Answer::Begins(with)) if !told.starts_with(with) => Some(format!("{told} does not begin with {with}")),
-            _ if !seen.insert(case.line.clone()) => Some("listed twice".into()),
-            _ => None,
-        };
-        if let Some(fault) = fault {
-            wrong += 1;
-            eprintln!("{}\n    {fault}", case.line);
-        }
-        match word.as_str() {
-            "stdin" => writeln!(out, "{}", case.line)?,
-            "stdout" => writeln!(out, "{} -> {}", case.line, told.unwrap_or_default())?,
-            _ => {}
-        }
-    }
-    if wrong > 0 {
-        eprintln!("{wrong} cases differ from the documents");
-        std::process::exit(1);
-    }
-    if out.is_empty() {
-        eprintln!("{} lists and runs; `translations stdin` or `translations stdout` prints them", seen.len());
-    }
-    std::io::stdout().write_all(&out)
+    print(all(), answer)
 }

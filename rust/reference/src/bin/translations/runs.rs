@@ -1,24 +1,25 @@
 //! Runs of lists that are good or nearly so, with the output bits and slots worked out by hand.
 
-use crate::case::{begins, case, listed, said, Case};
+use crate::hex::said;
 use crate::kinds::SUM_LIST;
+use reference::cases::{listed, Case};
 
 pub fn cases() -> Vec<Case> {
     let mut cases = Vec::new();
     for (setting, gates) in GATES {
         let [and, or, xor] = [1, 2, 3].map(|place| &gates[place..=place]);
         let slots = format!("01X{setting}{xor}{xor}{and}{or}0{and}{xor}{and}");
-        cases.push(case(format!("run {setting} |{SUM_LIST}"), format!("{xor}{and}, slots {slots}")));
+        cases.push(Case::new(format!("run {setting} |{SUM_LIST}"), format!("{xor}{and}, slots {slots}")));
         let line = format!("run {setting} |{}", said(EVERY_GATE));
-        cases.push(case(line, format!("{gates}, slots 01X{setting}{gates}{gates}")));
+        cases.push(Case::new(line, format!("{gates}, slots 01X{setting}{gates}{gates}")));
     }
     let settings = ["", "0", "1", "000", "0000", "3", "03", "30", "33", "1X3"];
-    cases.extend(settings.map(|setting| case(format!("run {setting} |{SUM_LIST}"), "refused 23 at 0")));
+    cases.extend(settings.map(|setting| Case::new(format!("run {setting} |{SUM_LIST}"), "refused 23 at 0")));
     cases.extend(listed(LISTS).map(|(line, answer)| told(line, answer)));
-    cases.extend(listed(LONG).map(|(line, answer)| case(line, answer)));
-    cases.push(begins(format!("{HIGH}4753050000012b01 475308002c010000"), "1, slots 302 bits, sum "));
-    cases.push(case(format!("{HIGH}4753050000012c01"), "refused 22 at 2400"));
-    cases.push(case(format!("{HIGH}475305002c010000"), "refused 22 at 2400"));
+    cases.extend(listed(LONG).map(|(line, answer)| Case::new(line, answer)));
+    cases.push(Case::begins(format!("{HIGH}4753050000012b01 475308002c010000"), "1, slots 302 bits, sum "));
+    cases.push(Case::new(format!("{HIGH}4753050000012c01"), "refused 22 at 2400"));
+    cases.push(Case::new(format!("{HIGH}475305002c010000"), "refused 22 at 2400"));
     cases
 }
 
@@ -113,5 +114,5 @@ run  |\{8191|4753000000000000 }4753090000000000 4753000000000000 => refused 22 a
 
 fn told(line: &str, answer: &str) -> Case {
     let (bits, list) = line.split_once('|').unwrap_or_else(|| panic!("no bar: {line}"));
-    case(format!("run {bits}|{}", said(list)), answer)
+    Case::new(format!("run {bits}|{}", said(list)), answer)
 }

@@ -1,14 +1,15 @@
 //! Texts and their load lists: the order of records, constants and pieces as operands, refusals, and lists of exactly 8,192 records.
 
-use crate::case::{begins, case, listed, said, Case, CONSTANTS};
+use crate::hex::{said, CONSTANTS};
+use reference::cases::{listed, Case};
 
 pub fn cases() -> Vec<Case> {
-    let mut cases = vec![case(r"list |\n", CONSTANTS)];
-    cases.extend(listed(ORDERS).map(|(text, list)| case(format!("list |{text}"), format!("{CONSTANTS} {}", said(list)))));
-    cases.extend(listed(REFUSALS).map(|(text, answer)| case(format!("list |{text}"), answer)));
+    let mut cases = vec![Case::new(r"list |\n", CONSTANTS)];
+    cases.extend(listed(ORDERS).map(|(text, list)| Case::new(format!("list |{text}"), format!("{CONSTANTS} {}", said(list)))));
+    cases.extend(listed(REFUSALS).map(|(text, answer)| Case::new(format!("list |{text}"), answer)));
     cases.extend(FULL.iter().flat_map(|(text, last)| full(text, *last)));
-    cases.push(case(r"list |\{500|%\#:1 = eq X*256 X*256\n}", "refused 21 at 0"));
-    cases.push(case(r"list |\{500|%\#:1 = eq X*256 X*256\n}%999:1 = not %999\n", "refused 20 at 0"));
+    cases.push(Case::new(r"list |\{500|%\#:1 = eq X*256 X*256\n}", "refused 21 at 0"));
+    cases.push(Case::new(r"list |\{500|%\#:1 = eq X*256 X*256\n}%999:1 = not %999\n", "refused 20 at 0"));
     cases.push(reversed());
     cases.push(ring_of_all());
     cases
@@ -64,16 +65,16 @@ const FULL: [(&str, usize); 7] = [
 
 fn full(text: &str, last: usize) -> [Case; 2] {
     let with = |bits: usize| format!("list |{text}%7777:0 = output \"last\" %0:{bits}\\n");
-    [begins(with(last), "8192 records, sum "), case(with(last + 1), "refused 21 at 0")]
+    [Case::begins(with(last), "8192 records, sum "), Case::new(with(last + 1), "refused 21 at 0")]
 }
 
 /// 510 inverters, each of the next one, the last of an input.
 fn reversed() -> Case {
     let cells: String = (0..510).map(|n| format!("%{n}:1 = not %{}\\n", n + 1)).collect();
-    begins(format!("list |{cells}%510:1 = input \"a\"\\n%511:0 = output \"y\" [%0 %1]\\n"), "516 records, sum ")
+    Case::begins(format!("list |{cells}%510:1 = input \"a\"\\n%511:0 = output \"y\" [%0 %1]\\n"), "516 records, sum ")
 }
 
 fn ring_of_all() -> Case {
     let cells: String = (0..512).map(|n| format!("%{n}:1 = buf %{}\\n", (n + 1) % 512)).collect();
-    case(format!("list |{cells}"), "refused 20 at 0")
+    Case::new(format!("list |{cells}"), "refused 20 at 0")
 }

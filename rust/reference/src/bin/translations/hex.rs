@@ -1,33 +1,4 @@
-//! A line with the answer that the documents give it, and ways to write lists by hand.
-
-pub enum Answer {
-    Is(String),
-    /// How it begins; the plain translator or runner alone says the rest.
-    Begins(&'static str),
-}
-
-pub struct Case {
-    /// `list |TEXT` or `run BITS |LIST`.
-    pub line: String,
-    pub answer: Answer,
-}
-
-pub fn case(line: impl Into<String>, answer: impl Into<String>) -> Case {
-    Case { line: line.into(), answer: Answer::Is(answer.into()) }
-}
-
-/// A case that the plain translator or runner answers, but for how the answer begins.
-pub fn begins(line: impl Into<String>, answer: &'static str) -> Case {
-    Case { line: line.into(), answer: Answer::Begins(answer) }
-}
-
-/// Cases one a line: `LINE => ANSWER`.
-pub fn listed(list: &str) -> impl Iterator<Item = (&str, &str)> {
-    list.lines().filter(|line| !line.is_empty()).map(|line| {
-        let (line, answer) = line.split_once(" =>").unwrap_or_else(|| panic!("no case: {line}"));
-        (line, answer.trim_start())
-    })
-}
+//! Ways to write lists by hand.
 
 /// "constants 0, 1, X" stand first in every translation.
 pub const CONSTANTS: &str = "4753000000000000 4753010000000000 4753020000000000";
@@ -57,15 +28,4 @@ pub fn bytes(hex: &[u8]) -> Option<Vec<u8>> {
     let digits: Vec<u8> = hex.iter().copied().filter(|&byte| byte != b' ').collect();
     let pair = |pair: &[u8]| u8::from_str_radix(std::str::from_utf8(pair).ok()?, 16).ok().filter(|_| pair.len() == 2);
     digits.chunks(2).map(pair).collect()
-}
-
-const LETTERS: [char; 4] = ['0', '1', 'X', '3'];
-
-pub fn letters(bits: &[u8]) -> String {
-    bits.iter().map(|&bit| LETTERS[usize::from(bit)]).collect()
-}
-
-pub fn bits(letters: &str) -> Option<Vec<u8>> {
-    let bit = |letter| LETTERS.iter().position(|&known| known == letter).map(|bit| bit as u8);
-    letters.chars().map(bit).collect()
 }
