@@ -1,11 +1,11 @@
 -- Marks of names, and names that have left theirs.
-use mathlib.Core.Path.{_≡_, refl, sym, ap, ap₂, _∙_}
+use mathlib.Core.Path.{_≡_, refl, sym, ap, ap₂, subst, _∙_}
 use mathlib.Core.Bool.{true, false}
 use mathlib.Core.List.{List, [], _∷_, _++_}
-use Prim.Native.Nat.{ℕ, _+_, _*_, _/_, _<_, _≤_}
+use Prim.Native.Nat.{ℕ, _+_, _*_, _/_, _%_, _<_, _≤_}
 use native.Mathlib.Omega.{arith}
 use native.Mathlib.Decide.{ℕ-discrete}
-use native.Mathlib.Nat.{mod-lt, div-lt-iff-lt-mul}
+use native.Mathlib.Nat.{mod-lt, div-lt-iff-lt-mul, mod-add-div', add-mul-mod-self-right}
 use lib.Dec.{eqb}
 use lib.ListN.{length, drop, getD, set, length-set}
 use lib.Seq.{getD-set-same, getD-set-other}
@@ -25,6 +25,40 @@ module _ (s : List ℕ) (mark i : ℕ) where
   pub mark-end : length s ≤ i → mark ≡ markFrom mark (drop i s)
   unfolding markFrom
   mark-end h = rw (rest-end s i h)
+
+mark-next : (s : List ℕ) (mark i j : ℕ) → i + 1 ≡ j → j ≤ length s → markFrom (markMore mark (getD s i 0)) (drop j s) ≡ markFrom mark (drop i s)
+mark-next s mark i j e h = subst (λ (k : ℕ). markFrom (markMore mark (getD s i 0)) (drop k s) ≡ markFrom mark (drop i s)) e (mark-on s mark i (omega arith))
+
+pub mark-four : (s : List ℕ) (mark i : ℕ) → i + 4 ≤ length s → markFrom (markMore (markMore (markMore (markMore mark (getD s i 0)) (getD s (i + 1) 0)) (getD s (i + 2) 0)) (getD s (i + 3) 0)) (drop (i + 4) s) ≡ markFrom mark (drop i s)
+mark-four s mark i h =
+    let a = markMore mark (getD s i 0) in
+    let b = markMore a (getD s (i + 1) 0) in
+    let c = markMore b (getD s (i + 2) 0) in
+    mark-next s c (i + 3) (i + 4) (omega arith) h
+    ∙ mark-next s b (i + 2) (i + 3) (omega arith) (omega arith)
+    ∙ mark-next s a (i + 1) (i + 2) (omega arith) (omega arith)
+    ∙ mark-next s mark i (i + 1) (omega arith) (omega arith)
+
+-- four bytes at a time: numbers that differ by a multiple of 2 ^ 32 leave the same
+mod-same : (x y q : ℕ) → x ≡ y + q * 4294967296 → x % 4294967296 ≡ y % 4294967296
+mod-same x y q e = ap (λ (n : ℕ). n % 4294967296) e ∙ add-mul-mod-self-right y q 4294967296
+
+more-mod : (x b : ℕ) → markMore (x % 4294967296) b ≡ (x + b) * 2862933555 % 4294967296
+more-mod x b =
+    let e = mod-add-div' x 4294967296 in
+    sym (mod-same ((x + b) * 2862933555) ((x % 4294967296 + b) * 2862933555) (x / 4294967296 * 2862933555) (omega (arith, e)))
+
+pub more-four : (mark a b c d : ℕ) → (mark * 2388247185 % 4294967296 + a * 2388247185 + b * 1479837739 + c * 2086121001 + d * 2862933555) % 4294967296 ≡ markMore (markMore (markMore (markMore mark a) b) c) d
+more-four mark a b c d =
+    let x = (mark + a) * 2862933555 in
+    let y = (x + b) * 2862933555 in
+    let z = (y + c) * 2862933555 in
+    let e = mod-add-div' (mark * 2388247185) 4294967296 in
+    sym
+    (ap (λ (m : ℕ). markMore (markMore m c) d) (more-mod x b)
+    ∙ ap (λ (m : ℕ). markMore m d) (more-mod y c)
+    ∙ more-mod z d
+    ∙ mod-same ((z + d) * 2862933555) (mark * 2388247185 % 4294967296 + a * 2388247185 + b * 1479837739 + c * 2086121001 + d * 2862933555) ((mark + a) * 15641745437005959393074607765 + b * 5463537709315073291 + c * 1908370419 + mark * 2388247185 / 4294967296) (omega (arith, e)))
 
 from-small : (s : List ℕ) (mark : ℕ) → mark < 4294967296 → markFrom mark s < 4294967296
 unfolding markFrom

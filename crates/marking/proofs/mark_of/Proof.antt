@@ -1,59 +1,88 @@
 use mathlib.Core.Path.{_≡_, sym, ap, _∙_}
-use Prim.Native.Nat.{ℕ, _-_}
+use Prim.Native.Nat.{ℕ, _+_, _-_, _≤_}
+use native.Mathlib.Omega.{arith}
 use lib.ListN.{length, drop}
 use Rattle.marking.specs.Marks.{markFrom, markOf}
-use Rattle.marking.proofs.Laws.{mark-on, mark-end}
+use Rattle.marking.proofs.Laws.{mark-four}
 use borrow.Author.Needs.{needs}
 use Rattle.marking.proofs.mark_of.Statement.{statement}
 use Rattle.marking.proofs.mark_of.Tie as tie
 use Rattle.marking.proofs.mark_of.Reads as reads
 use Rattle.marking.proofs.mark_of.Lts as lts
+use Rattle.marking.proofs.mark_four.Reads as mark-four-reads
 use Rattle.marking.proofs.mark_kind.Reads as mark-kind-reads
-use Rattle.marking.proofs.mark_more.Reads as mark-more-reads
+use Rattle.marking.proofs.mark_rest.Reads as mark-rest-reads
 
 abbrev Inv-loop : tie.InvT-loop
-Inv-loop kind name mark₀ i₀ mark i = markFrom mark (drop i name) ≡ markOf kind name
+Inv-loop kind name mark₀ i₀ mark i = (i ≤ length name) × (markFrom mark (drop i name) ≡ markOf kind name)
 
 abbrev μ-loop : tie.MeasureT-loop
 μ-loop kind name mark₀ i₀ mark i = length name - i
 
--- src/lib.rt:26:9
+-- src/lib.rt:48:9
 mark-kind-requires : tie.Need-mark-kind-requires Inv-loop μ-loop
 mark-kind-requires c κs = search needs
 
--- src/lib.rt:28:5
+-- src/lib.rt:50:5
 loop-holds : tie.Need-loop-holds Inv-loop μ-loop
 unfolding markOf
-loop-holds c = ap (λ (m : ℕ). markFrom m (c .before .before .args .name .now)) (c .mark-kind .ensures)
+loop-holds c = (omega arith, ap (λ (m : ℕ). markFrom m (c .before .before .args .name .now)) (c .mark-kind .ensures))
 
--- src/lib.rt:29:32
-shared-slice-read-mark-more : tie.Need-shared-slice-read-mark-more Inv-loop μ-loop
-shared-slice-read-mark-more c = search needs
+-- src/lib.rt:50:16
+sub-loop : tie.Need-sub-loop Inv-loop μ-loop
+sub-loop c = search needs
 
--- src/lib.rt:29:9
-mark-more-requires : tie.Need-mark-more-requires Inv-loop μ-loop
-mark-more-requires c κs = search needs
+-- src/lib.rt:51:32
+shared-slice-read-mark-four : tie.Need-shared-slice-read-mark-four Inv-loop μ-loop
+shared-slice-read-mark-four c = search needs
 
--- src/lib.rt:30:9
+-- src/lib.rt:51:46
+add-mark-four : tie.Need-add-mark-four Inv-loop μ-loop
+add-mark-four c = search needs
+
+-- src/lib.rt:51:41
+shared-slice-read-mark-four-2 : tie.Need-shared-slice-read-mark-four-2 Inv-loop μ-loop
+shared-slice-read-mark-four-2 c = search needs
+
+-- src/lib.rt:51:59
+add-mark-four-2 : tie.Need-add-mark-four-2 Inv-loop μ-loop
+add-mark-four-2 c = search needs
+
+-- src/lib.rt:51:54
+shared-slice-read-mark-four-3 : tie.Need-shared-slice-read-mark-four-3 Inv-loop μ-loop
+shared-slice-read-mark-four-3 c = search needs
+
+-- src/lib.rt:51:72
+add-mark-four-3 : tie.Need-add-mark-four-3 Inv-loop μ-loop
+add-mark-four-3 c = search needs
+
+-- src/lib.rt:51:67
+shared-slice-read-mark-four-4 : tie.Need-shared-slice-read-mark-four-4 Inv-loop μ-loop
+shared-slice-read-mark-four-4 c = search needs
+
+-- src/lib.rt:51:9
+mark-four-requires : tie.Need-mark-four-requires Inv-loop μ-loop
+mark-four-requires c κs = search needs
+
+-- src/lib.rt:52:9
 add-i : tie.Need-add-i Inv-loop μ-loop
 add-i c = search needs
 
--- src/lib.rt:28:5
+-- src/lib.rt:50:5
 loop-less : tie.Need-loop-less Inv-loop μ-loop
 loop-less c = search needs
 
--- src/lib.rt:28:5
+-- src/lib.rt:50:5
 loop-again : tie.Need-loop-again Inv-loop μ-loop
-loop-again c =
-    let p = c .before .before .before in
-    let a = p .before .before .before .args in
-    (rw (sym (c .mark-more .ensures)) at (mark-on (a .name .now) (p .loop .mark) (p .loop .i) (c .before .before .loop-test .taken))) ∙ p .loop .inv
+loop-again c = let p = c .before .before .before .before .before .before in let a = c .before .before .before .before .before .before .before .before .before .args in let h : p .loop .i + 4 ≤ length (a .name .now) = omega arith in (h, (rw (sym (c .mark-four .ensures)) at (mark-four (a .name .now) (p .loop .mark) (p .loop .i) h)) ∙ p .loop .inv .1)
 
--- src/lib.rt:23:1
+-- src/lib.rt:54:5
+mark-rest-requires : tie.Need-mark-rest-requires Inv-loop μ-loop
+mark-rest-requires c κs = search needs
+
+-- src/lib.rt:45:1
 returns : tie.Need-returns Inv-loop μ-loop
-returns c =
-    let p = c .before in
-    mark-end (p .before .before .before .args .name .now) (p .loop .mark) (p .loop .i) (c .loop-test .left) ∙ p .loop .inv
+returns c = c .mark-rest .ensures ∙ c .before .before .loop .inv .1
 
 pub mark-of-spec : {M : Type 1} → statement M
 mark-of-spec =
@@ -63,9 +92,17 @@ mark-of-spec =
     μ-loop
     mark-kind-requires
     loop-holds
-    shared-slice-read-mark-more
-    mark-more-requires
+    sub-loop
+    shared-slice-read-mark-four
+    add-mark-four
+    shared-slice-read-mark-four-2
+    add-mark-four-2
+    shared-slice-read-mark-four-3
+    add-mark-four-3
+    shared-slice-read-mark-four-4
+    mark-four-requires
     add-i
     loop-less
     loop-again
+    mark-rest-requires
     returns)
