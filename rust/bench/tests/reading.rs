@@ -4,7 +4,7 @@
 
 #![forbid(unsafe_code)]
 
-use bench::{alike_netlist, any_netlist, changed, full_netlist, Random};
+use bench::{alike_netlist, any_netlist, changed, full_netlist, pads_netlist, paired_netlist, Random};
 use grackleivy::{ROWS, STRINGS, TRITS, WORK};
 use reference::{lines, Refusal, Tables, Work};
 use std::path::Path;
@@ -185,13 +185,15 @@ fn names_alike() {
     let mut random = seeded("names alike");
     let mut compared = Compared::new("names alike");
     for kib in [4, 16, 64] {
-        let text = alike_netlist(kib << 10, 0);
-        compared.text(&text);
-        for _ in 0..60 {
-            compared.text(&changed(&text, &mut random));
+        for maker in [alike_netlist, paired_netlist, pads_netlist] {
+            let text = maker(kib << 10, 0);
+            compared.text(&text);
+            for _ in 0..60 {
+                compared.text(&changed(&text, &mut random));
+            }
         }
     }
-    compared.finish(180);
+    compared.finish(540);
 }
 
 #[test]

@@ -5,7 +5,7 @@
 
 #![forbid(unsafe_code)]
 
-use bench::{alike_netlist, any_netlist, full_netlist, Random};
+use bench::{alike_netlist, any_netlist, full_netlist, pads_netlist, paired_netlist, Random};
 use grackleivy::{ROWS, STRINGS, TRITS};
 use reference::reading::{canonical, full_name};
 use reference::{lines, Refusal, Tables};
@@ -227,9 +227,11 @@ fn full_netlists_with_a_place_changed() {
     let mut compared = Compared::new("full netlists with a place changed");
     for kib in [4, 16, 64] {
         changes(&mut compared, &full_netlist(kib << 10, kib as u64), 500, &mut random);
-        changes(&mut compared, &alike_netlist(kib << 10, 0), 500, &mut random);
+        for maker in [alike_netlist, paired_netlist, pads_netlist] {
+            changes(&mut compared, &maker(kib << 10, 0), 500, &mut random);
+        }
     }
-    compared.finish(3_000);
+    compared.finish(6_000);
 }
 
 #[test]
