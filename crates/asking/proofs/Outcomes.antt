@@ -11,6 +11,7 @@ use Rattle.ground.proofs.Outcome.{any-two}
 use Rattle.signs.specs.Pieces.{decoded}
 use Rattle.brackets.specs.Parts.{membersAt}
 use Rattle.netlist.specs.Rules.{badRange, taken, ioNames, namesAs}
+use Rattle.marking.specs.Marks.{markOf}
 use Rattle.saying.specs.Notes.{IoNote, CellNote, ioNote, cellNote, iosSaid, cellsSaid, SpellIos, SpellCells}
 use Rattle.asking.specs.Namesakes.{IosNoted, CellsNoted}
 use Rattle.asking.specs.References.{refIn, misnamedIn, firstMisnamed}
@@ -26,6 +27,9 @@ one-word table = any-two (λ at. getD table at 0)
 
 pub one-same : (text : List ℕ) (a : ℕ) → One (λ b. same (decoded text a) (decoded text b))
 one-same text a = any-two (λ b. same (decoded text a) (decoded text b))
+
+pub one-mark : (text : List ℕ) (kind : ℕ) → One (λ from. markOf kind (decoded text from))
+one-mark text kind = any-two (λ from. markOf kind (decoded text from))
 
 pub one-range : (line column endLine : ℕ) → One (badRange line column endLine)
 one-range line column endLine = any-two (badRange line column endLine)
