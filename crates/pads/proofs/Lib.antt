@@ -1,3 +1,4 @@
 pub mod Far
 pub mod Named
 pub mod Looked
+pub mod Filled

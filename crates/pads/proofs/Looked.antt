@@ -1,4 +1,4 @@
--- The lookup over pads that are made of the I/O rows of good tables is document 01's lookup. Each contract allows one outcome.
+-- The search of pads that are made of the I/O rows is document 01's lookup. Each contract allows one outcome.
 use mathlib.Core.Path.{_≡_, refl, ap, sym, _∙_}
 use mathlib.Core.Bool.{Bool, true, false}
 use mathlib.Core.List.{List, [], _∷_}
@@ -6,28 +6,27 @@ use Prim.Native.Nat.{ℕ, zero, suc, _+_, _*_, _-_, _≤_, _<_}
 use native.Mathlib.Numerals.{add-one}
 use native.Mathlib.Omega.{arith}
 use lib.Dec.{ltb}
-use lib.ListN.{length, take, drop, getD}
+use lib.ListN.{length, take, drop, getD, length-take, length-drop}
 use lib.Seq.{drop-drop}
 use borrow.Author.Tests.{lt-ltb, le-ltb}
 use Rattle.ground.specs.Choice.{pick}
 use Rattle.ground.specs.Refusals.{at, refusal}
-use Rattle.ground.specs.Lists.{every}
 use Rattle.ground.specs.Regions.{part}
 use Rattle.ground.specs.Text.{same}
 use Rattle.ground.proofs.Bools.{bool-cases}
 use Rattle.ground.proofs.Outcome.{any-two}
 use Rattle.netlist.specs.Netlist.{Io}
-use Rattle.netlist.specs.Rules.{isByte, isNumber}
 use Rattle.netlist.specs.View.{word, ioIn, iosIn}
-use Rattle.netlist.specs.Good.{checkOf, lookupOf, ioFrom}
-use Rattle.netlist.specs.declared.Checked.the-variants as checked
+use Rattle.netlist.specs.Good.{lookupOf, ioFrom}
 use Rattle.netlist.specs.declared.Found.{Found}
 use Rattle.netlist.specs.declared.Found.the-variants as found
 use Rattle.checking.specs.Names.{IosNamed}
 use Rattle.checking.specs.Parts.{stringsAlone}
-use Rattle.checking.proofs.Top.{found-named, found-is}
 use Rattle.pads.specs.declared.Pad.{Pad}
-use Rattle.pads.specs.Pads.{padIn, padsIn, padNamed, firstFrom, firstPad, foundIn, blankPad}
+use Rattle.pads.specs.Pads.{padIn, padsIn, padNamed, firstFrom, firstPad}
+
+abbrev pub blankPad : Pad
+blankPad = record { start = 0; length = 0; width = 0 }
 
 -- the row found is at or behind the row that the search begins with
 late : (strings name : List ℕ) (n row : ℕ) (pads : List Pad) → row ≤ firstFrom strings name n row pads
@@ -38,24 +37,24 @@ late strings name (suc n) row (p ∷ pads) = bool-cases (padNamed strings p name
     (λ e. rw e (omega arith))
     (λ e. rw e (omega (arith, late strings name n (suc row) pads)))
 
--- what is found from a row on
-abbrev foundFrom : ℕ → List Pad → ℕ → Found
-foundFrom row pads m = pick (ltb m (row + length pads)) (found.Row m (getD pads (m - row) blankPad .width)) (found.Refused (refusal 18 (at 0)))
+-- what is found among n pads from a row on, where the search tells row m
+abbrev pub upto : ℕ → ℕ → List Pad → ℕ → Found
+upto row n pads m = pick (ltb m (row + n)) (found.Row m (getD pads (m - row) blankPad .width)) (found.Refused (refusal 18 (at 0)))
 
 named-io : (strings name rows : List ℕ) → word rows 0 + word rows 1 ≤ length strings → padNamed strings (padIn rows) name ≡ same (part (word rows 0) (word rows 1) strings) name
 unfolding padNamed
 named-io strings name rows h = rw (le-ltb (length strings) (word rows 0 + word rows 1) h)
 
-found-here : (row : ℕ) (p : Pad) (pads : List Pad) → foundFrom row (p ∷ pads) row ≡ found.Row row (p .width)
-found-here row p pads =
-    let h : row < row + length (p ∷ pads) = omega arith in
+found-here : (row n : ℕ) (p : Pad) (pads : List Pad) → upto row (suc n) (p ∷ pads) row ≡ found.Row row (p .width)
+found-here row n p pads =
+    let h : row < row + suc n = omega arith in
     let e : row - row ≡ 0 = omega arith in
-    rw (lt-ltb row (row + length (p ∷ pads)) h, e)
+    rw (lt-ltb row (row + suc n) h, e)
 
-found-later : (row m : ℕ) (p : Pad) (pads : List Pad) → suc row ≤ m → foundFrom row (p ∷ pads) m ≡ foundFrom (suc row) pads m
-found-later row m p pads h =
+found-later : (row n m : ℕ) (p : Pad) (pads : List Pad) → suc row ≤ m → upto row (suc n) (p ∷ pads) m ≡ upto (suc row) n pads m
+found-later row n m p pads h =
     let e : m - row ≡ suc (m - suc row) = omega arith in
-    let l : row + length (p ∷ pads) ≡ suc row + length pads = omega arith in
+    let l : row + suc n ≡ suc row + n = omega arith in
     rw (l, e)
 
 module _ (strings name : List ℕ) (m row : ℕ) (p : Pad) (pads : List Pad) where
@@ -90,41 +89,47 @@ module _ (strings name : List ℕ) where
   abbrev shown : ℕ → List ℕ → List Io
   shown n rows = iosIn (stringsAlone strings) n rows
 
-  abbrev looked : ℕ → List Pad → Found
-  looked row pads = foundFrom row pads (firstFrom strings name (length pads) row pads)
+  abbrev first : ℕ → List Pad → ℕ
+  first row pads = firstFrom strings name (length pads) row pads
 
-  -- over n rows, from a row on
-  from-rows : (n row : ℕ) (rows : List ℕ) → Named strings n rows → looked row (padsIn n rows) ≡ ioFrom (shown n rows) row name
+  -- over the first n of m rows, from a row on
+  from-rows : (n m row : ℕ) (rows : List ℕ) → n ≤ m → Named strings n rows → upto row n (padsIn m rows) (first row (padsIn m rows)) ≡ ioFrom (shown n rows) row name
   unfolding padsIn iosIn firstFrom ioFrom
-  from-rows zero row rows there =
-      let h : row + length {A = Pad} [] ≤ row = omega arith in
-      rw (le-ltb row (row + length {A = Pad} []) h)
-  from-rows (suc n) row rows there =
+  from-rows zero m row rows few there =
+      let pads : List Pad = padsIn m rows in
+      let h : row + 0 ≤ first row pads = omega (arith, late strings name (length pads) row pads) in
+      rw (le-ltb (first row pads) (row + 0) h)
+  from-rows (suc n) zero row rows few there = absurd (omega (arith, few))
+  from-rows (suc n) (suc m) row rows few there =
       let z : 0 < suc n = omega arith in
       let k : padNamed strings (padIn rows) name ≡ same (part (word rows 0) (word rows 1) strings) name = named-io strings name rows (there 0 z) in
-      let pads : List Pad = padsIn n (drop 3 rows) in
+      let pads : List Pad = padsIn m (drop 3 rows) in
       bool-cases (same (part (word rows 0) (word rows 1) strings) name)
-      (λ e. ap (foundFrom row (padIn rows ∷ pads)) (first-is strings name (length pads) row (padIn rows) pads (k ∙ e))
-      ∙ found-here row (padIn rows) pads ∙ sym (io-is (ioIn (stringsAlone strings) rows) (shown n (drop 3 rows)) row name e))
-      (λ e. ap (foundFrom row (padIn rows ∷ pads)) (first-not strings name (length pads) row (padIn rows) pads (k ∙ e))
-      ∙ found-later row (firstFrom strings name (length pads) (suc row) pads) (padIn rows) pads (late strings name (length pads) (suc row) pads)
-      ∙ from-rows n (suc row) (drop 3 rows) (named-next strings n rows there)
+      (λ e. ap (upto row (suc n) (padIn rows ∷ pads)) (first-is strings name (length pads) row (padIn rows) pads (k ∙ e))
+      ∙ found-here row n (padIn rows) pads ∙ sym (io-is (ioIn (stringsAlone strings) rows) (shown n (drop 3 rows)) row name e))
+      (λ e. ap (upto row (suc n) (padIn rows ∷ pads)) (first-not strings name (length pads) row (padIn rows) pads (k ∙ e))
+      ∙ found-later row n (first (suc row) pads) (padIn rows) pads (late strings name (length pads) (suc row) pads)
+      ∙ from-rows n m (suc row) (drop 3 rows) (omega (arith, few)) (named-next strings n rows there)
       ∙ sym (io-not (ioIn (stringsAlone strings) rows) (shown n (drop 3 rows)) row name e))
 
-  -- all rows of a region
-  pub rows-looked : (n : ℕ) (rows : List ℕ) → IosNamed strings n rows → foundIn (padsIn n rows) (firstPad strings name (padsIn n rows)) ≡ ioFrom (shown n rows) 0 name
-  rows-looked n rows there =
-      let m : ℕ = firstPad strings name (padsIn n rows) in
-      let e : m - 0 ≡ m = omega arith in
-      let l : 0 + length (padsIn n rows) ≡ length (padsIn n rows) = omega arith in
-      rw (e, l) at (from-rows n 0 rows (there .each))
+  -- 64 rows of which n are used: what a row that the search tells means
+  module _ (n : ℕ) (rows : List ℕ) (few : n ≤ 64) (there : IosNamed strings n rows) (k : ℕ) (is : k ≡ firstPad strings name (padsIn 64 rows)) where
+    all-upto : upto 0 n (padsIn 64 rows) k ≡ ioFrom (shown n rows) 0 name
+    all-upto = rw is (from-rows n 64 0 rows few (there .each))
 
--- GOOD TABLES: the pads of their I/O rows, looked through, give the lookup's answer
-pub tables-looked : (rows strings bits name : List ℕ) → checkOf rows strings bits ≡ checked.Good → every isByte strings ≡ true → every isNumber rows ≡ true
-    → foundIn (padsIn (getD rows 1 0) (take 192 (drop 9219 rows))) (firstPad (take 16384 strings) name (padsIn (getD rows 1 0) (take 192 (drop 9219 rows)))) ≡ lookupOf rows strings bits name
-tables-looked rows strings bits name good b w =
-    rows-looked (take 16384 strings) name (getD rows 1 0) (take 192 (drop 9219 rows)) (found-named rows strings bits good b w (getD rows 1 0) refl)
-    ∙ found-is rows strings bits good b w (getD rows 1 0) refl name
+    pub row-found : k < n → found.Row k (getD (padsIn 64 rows) k blankPad .width) ≡ ioFrom (shown n rows) 0 name
+    row-found h =
+        let l : k < 0 + n = omega arith in
+        let z : k - 0 ≡ k = omega arith in
+        (rw (lt-ltb k (0 + n) l, z) at all-upto)
+
+    pub none-found : n ≤ k → found.Refused (refusal 18 (at 0)) ≡ ioFrom (shown n rows) 0 name
+    none-found h =
+        let l : 0 + n ≤ k = omega arith in
+        (rw (le-ltb k (0 + n) l) at all-upto)
+
+pub region-long : (rows : List ℕ) → 26307 ≤ length rows → length (take 192 (drop 9219 rows)) ≡ 192
+region-long rows h = simp (length-take, length-drop) (omega arith)
 
 -- one outcome each
 pub named-one : (strings name : List ℕ) (pad : Pad) (a b : Bool) → a ≡ padNamed strings pad name → b ≡ padNamed strings pad name → a ≡ b
@@ -132,3 +137,6 @@ named-one strings name pad a b = any-two (λ (p : Pad). padNamed strings p name)
 
 pub first-one : (strings name : List ℕ) (pads : List Pad) (a b : ℕ) → a ≡ firstPad strings name pads → b ≡ firstPad strings name pads → a ≡ b
 first-one strings name = any-two (firstPad strings name)
+
+pub lookup-one : (rows strings bits name : List ℕ) (a b : Found) → a ≡ lookupOf rows strings bits name → b ≡ lookupOf rows strings bits name → a ≡ b
+lookup-one rows strings bits = any-two (lookupOf rows strings bits)

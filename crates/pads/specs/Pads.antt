@@ -3,14 +3,11 @@ use mathlib.Core.Bool.{Bool, true, false}
 use mathlib.Core.List.{List, [], _∷_}
 use Prim.Native.Nat.{ℕ, zero, suc, _+_}
 use lib.Dec.{ltb}
-use lib.ListN.{length, drop, getD}
+use lib.ListN.{length, drop}
 use Rattle.ground.specs.Choice.{pick}
 use Rattle.ground.specs.Regions.{part}
 use Rattle.ground.specs.Text.{same}
-use Rattle.ground.specs.Refusals.{at, refusal}
 use Rattle.netlist.specs.View.{word}
-use Rattle.netlist.specs.declared.Found.{Found}
-use Rattle.netlist.specs.declared.Found.the-variants as found
 use Rattle.pads.specs.declared.Pad.{Pad}
 
 -- a row of the I/O region as a pad
@@ -34,10 +31,3 @@ firstFrom strings name (suc n) row (pad ∷ pads) = pick (padNamed strings pad n
 
 abbrev pub firstPad : List ℕ → List ℕ → List Pad → ℕ
 firstPad strings name pads = firstFrom strings name (length pads) 0 pads
-
--- a row found among pads, with its width; 18 where it is behind them: "no I/O row has the asked name"
-abbrev pub blankPad : Pad
-blankPad = record { start = 0; length = 0; width = 0 }
-
-abbrev pub foundIn : List Pad → ℕ → Found
-foundIn pads row = pick (ltb row (length pads)) (found.Row row (getD pads row blankPad .width)) (found.Refused (refusal 18 (at 0)))
