@@ -1,13 +1,16 @@
 // A file, or standard input, read whole: as many bytes as there is room for, so that one too long is seen to be too long.
 use crate::words::same;
+use answering::Job;
+use answering::answer;
+use answering::tell_unread;
 use libc::STDIN_FILENO;
 ghost use Prim.Native.Nat.{_<_, _≤_};
 ghost use lib.ListN.{length};
 
 // Whether the file was read to its end or until the room was full, and how many bytes came.
-pub struct Taken {
-    pub whole: bool,
-    pub n: usize,
+struct Taken {
+    whole: bool,
+    n: usize,
 }
 
 // One read behind the first n bytes: how many came, none at the end.
@@ -68,7 +71,7 @@ fn read_named(path: &[u8], room: &mut [u8]) -> Taken
 }
 
 // The file of a name; `-` names standard input.
-pub fn take_file(path: &[u8], room: &mut [u8]) -> Taken
+fn take_file(path: &[u8], room: &mut [u8]) -> Taken
     ensures { λ r. ⌜ r .n ≤ length (now (room .entry)) ⌝ }
 {
     if same(path, b"-") {
@@ -77,8 +80,13 @@ pub fn take_file(path: &[u8], room: &mut [u8]) -> Taken
     read_named(path, room)
 }
 
-// The line of a file that cannot be read.
-pub fn tell_unread(to: i32, path: &[u8]) {
-    io::write_all(to, path);
-    io::write_all(to, b": there is no such file, or it cannot be read\n");
+// A byte more than any text or list may have: what is too long is refused as such. Whether the file was read, taken and answered.
+pub fn answer_file(job: Job, path: &[u8], word: &[u8]) -> bool {
+    let mut room = [0u8; 65537];
+    let taken = take_file(path, &mut room);
+    let n = taken.n;
+    if taken.whole {
+        return answer(job, path, &room[0..n], word);
+    }
+    tell_unread(job, path)
 }

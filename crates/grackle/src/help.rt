@@ -1,5 +1,5 @@
 // The page of help, and the line that tells how a subcommand is called.
-use crate::jobs::Job;
+use answering::Job;
 use libc::STDERR_FILENO;
 use libc::STDOUT_FILENO;
 
@@ -20,28 +20,20 @@ fn usage(line: &[u8]) {
     io::write_all(STDERR_FILENO, b"   (`grackle help` tells more)\n");
 }
 
+pub fn tell_unknown() {
+    usage(b"check|print|list|load|eval|run|names|pads|pad|help ..");
+}
+
 pub fn tell_usage(job: Job) {
     match job {
         Job::Check => usage(b"check FILE.."),
         Job::Print => usage(b"print FILE"),
         Job::List => usage(b"list FILE"),
         Job::Load => usage(b"load FILE"),
-        Job::Eval => usage(b"eval [--bits] FILE BITS"),
         Job::Run => usage(b"run LIST BITS"),
         Job::Names => usage(b"names FILE"),
         Job::Pads => usage(b"pads FILE"),
         Job::Pad => usage(b"pad FILE NAME"),
-        _ => usage(b"check|print|list|load|eval|run|names|pads|pad|help .."),
+        _ => usage(b"eval [--bits] FILE BITS"),
     }
-}
-
-// Standard output may be closed or full; an answer cut short must not be taken for a whole one.
-pub fn tell_written(whole: bool) {
-    if whole {
-        return;
-    }
-    io::write_all(
-        STDERR_FILENO,
-        b"grackle: the answer could not be written whole\n",
-    );
 }

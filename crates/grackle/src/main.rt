@@ -2,28 +2,27 @@
 // calls the function that answers, and tells the answer. It decides nothing itself. An answer goes to standard output; a refusal, a file
 // that cannot be read and a wrong call go to standard error, one line each, with nothing on standard output. `check` tells each file's
 // line on standard output.
-mod bench;
 mod checks;
+mod commands;
 mod files;
 mod help;
-mod jobs;
-mod names;
-mod tables;
-mod texts;
 mod words;
 
 use crate::checks::check_files;
+use crate::commands::Command;
+use crate::commands::command_of;
+use crate::files::answer_file;
 use crate::help::tell_help;
+use crate::help::tell_unknown;
 use crate::help::tell_usage;
-use crate::jobs::Job;
-use crate::jobs::job_of;
-use crate::texts::serve_file;
+use crate::words::is_option;
+use answering::Job;
 
 // The file that an argument names, and what is asked of it.
 fn serve(job: Job, file: usize, word: &[u8]) {
     let mut path = io::buffer();
     let n = os::arg(file, &mut path);
-    serve_file(job, &path[..n], word);
+    answer_file(job, &path[..n], word);
 }
 
 // The bits of an argument, or a name: an argument longer than the room is longer than every assignment and every name.
@@ -39,11 +38,11 @@ fn serve_with(job: Job, file: usize, word: usize) {
 
 // `eval` with `--bits`, before the file or behind the bits.
 fn serve_option() {
-    if words::is_option(2) {
+    if is_option(2) {
         serve_with(Job::EvalBits, 3, 4);
         return;
     }
-    if words::is_option(4) {
+    if is_option(4) {
         serve_with(Job::EvalBits, 2, 3);
         return;
     }
@@ -86,21 +85,26 @@ fn serve_check(count: usize) {
     tell_usage(Job::Check);
 }
 
+fn serve_job(job: Job, count: usize) {
+    match job {
+        Job::Check => serve_check(count),
+        Job::Eval => serve_eval(count),
+        Job::Run => serve_two(job, count),
+        Job::Pad => serve_two(job, count),
+        _ => serve_one(job, count),
+    }
+}
+
 fn main() {
     let count = os::arg_count();
     if count < 2 {
         tell_help();
         return;
     }
-    let job = job_of(1);
-    match job {
-        Job::Help => tell_help(),
-        Job::Check => serve_check(count),
-        Job::Eval => serve_eval(count),
-        Job::Run => serve_two(job, count),
-        Job::Pad => serve_two(job, count),
-        Job::EvalBits => tell_usage(Job::Unknown),
-        Job::Unknown => tell_usage(job),
-        _ => serve_one(job, count),
+    let command = command_of(1);
+    match command {
+        Command::Help => tell_help(),
+        Command::Unknown => tell_unknown(),
+        Command::Of(job) => serve_job(job, count),
     }
 }

@@ -16,21 +16,9 @@ pub fn same(a: &[u8], b: &[u8]) -> bool {
 }
 
 // The byte at a place, and 0 past the end.
-pub fn byte_at(bytes: &[u8], at: usize) -> u8 {
+fn byte_at(bytes: &[u8], at: usize) -> u8 {
     if at < bytes.len() {
         return bytes[at];
-    }
-    0
-}
-
-fn wide(word: u32) -> usize {
-    word as usize
-}
-
-// The word at a place, and 0 past the end.
-pub fn word_at(words: &[u32], at: usize) -> usize {
-    if at < words.len() {
-        return wide(words[at]);
     }
     0
 }

@@ -37,10 +37,16 @@ fn tell_rule(to: i32, number: u8) -> bool {
         ),
         11 => io::write_all(
             to,
-            b"a name is empty, a source range ends before it starts, or a set is too short",
+            b"a name is empty, a source range is wrong, or a set has fewer than two members",
         ),
-        12 => io::write_all(to, b"the widths do not fit"),
-        13 => io::write_all(to, b"the netlist is too large for its tables"),
+        12 => io::write_all(
+            to,
+            b"the widths do not fit together, or one is not 1 to 256",
+        ),
+        13 => io::write_all(
+            to,
+            b"there is no room for it: too many cells, bits or rows, or a name too long",
+        ),
         _ => io::write_all(
             to,
             b"it uses a cell that is not declared, or bits that the cell does not have",
@@ -59,7 +65,7 @@ fn tell_asked(to: i32, number: u8) -> bool {
             b"cells feed themselves in a ring, so they have no settled value",
         ),
         21 => io::write_all(to, b"the load list would have more than 8,192 records"),
-        22 => io::write_all(to, b"this is no good load list"),
+        22 => io::write_all(to, b"this is no load list, or it is damaged here"),
         23 => io::write_all(
             to,
             b"there are not as many bits as inputs, or one is not 0, 1 or X",

@@ -1,12 +1,12 @@
 // What is asked of a netlist that was read.
 use crate::bench::eval_tables;
-use crate::checks::tell_counts;
-use crate::help::tell_written;
+use crate::counts::tell_counts;
 use crate::jobs::Job;
 use crate::jobs::told_to;
 use crate::names::tell_names;
 use crate::names::tell_pad;
 use crate::names::tell_pads;
+use crate::words::tell_written;
 use crate::words::word_at;
 use ground::Refusal;
 use libc::STDERR_FILENO;
@@ -74,7 +74,7 @@ fn translate_tables(job: Job, path: &[u8], rows: &[u32], strings: &[u8], trits: 
     }
 }
 
-pub fn serve_tables(
+pub fn answer_tables(
     job: Job,
     path: &[u8],
     rows: &[u32],

@@ -1,6 +1,6 @@
 // `names`, `pads` and `pad`: full names of idents, and the pads with their widths.
-use crate::help::tell_written;
 use crate::tables::refuse;
+use crate::words::tell_written;
 use crate::words::word_at;
 use checking::lookup_io;
 use ground::Refusal;

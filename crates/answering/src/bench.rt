@@ -1,6 +1,6 @@
 // `eval` and `run`: output bits for input bits.
-use crate::help::tell_written;
 use crate::tables::refuse;
+use crate::words::tell_written;
 use crate::words::word_at;
 use evaluating::Evaluated;
 use evaluating::evaluate;
