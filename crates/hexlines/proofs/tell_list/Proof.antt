@@ -380,5 +380,5 @@ tell-list-spec 𝓤 H 𝓜 𝓖 𝓡 =
       at-left = cited 𝓤 H (IsLeft 𝓤 H (𝓖 .A) (𝓜 .mem) (𝓡 .run)) 𝓜 𝓡 code.env #records·is-left is-left-def.routine code.calls-records·is-left (is-left-thm.met 𝓤 H 𝓜 𝓖 𝓡);
       at-record = cited 𝓤 H (RecordOf 𝓤 H (𝓖 .A) (𝓜 .mem) (𝓡 .run)) 𝓜 𝓡 code.env #records·record-of record-of-def.routine code.calls-records·record-of (record-of-thm.met 𝓤 H 𝓜 𝓖 𝓡);
       at-moved = cited 𝓤 H (Moved 𝓤 H (𝓖 .A) (𝓜 .mem) (𝓡 .run)) 𝓜 𝓡 code.env #records·moved moves-def.routine code.calls-records·moved (moves-thm.met 𝓤 H 𝓜 𝓖 𝓡);
-      at-tell = cited 𝓤 H (Tell 𝓤 H (𝓖 .A) (𝓜 .mem) (𝓡 .run)) 𝓜 𝓡 code.env #lines·tell-record tell-def.routine code.calls-lines·tell-record (tell-thm.met 𝓤 H 𝓜 𝓖 𝓡);
+      at-tell = cited 𝓤 H (Tell 𝓤 H (𝓖 .A) (𝓜 .mem) (𝓡 .run)) 𝓜 𝓡 code.env #lines·tell-record tell-def.routine code.calls-hexlines·tell-record (tell-thm.met 𝓤 H 𝓜 𝓖 𝓡);
     }))
