@@ -65,9 +65,9 @@ use Rattle.records.proofs.moved.Met as moves-thm
 use Rattle.hexlines.proofs.Falls.{left, falls}
 use Rattle.hexlines.proofs.tell_record as tell
 use Rattle.hexlines.proofs.tell_record.Symbol as tell-def
-use Rattle.hexlines.proofs.tell_record.Symbol.{name as #lines·tell-record}
+use Rattle.hexlines.proofs.tell_record.Symbol.{name as #hexlines·tell-record}
 use Rattle.hexlines.proofs.tell_record.Met as tell-thm
-use Rattle.hexlines.proofs.tell_list.Key.{name as #lines·tell-list}
+use Rattle.hexlines.proofs.tell_list.Key.{name as #hexlines·tell-list}
 use Rattle.hexlines.proofs.tell_list as tell-list
 use Rattle.hexlines.proofs.tell_list.Statement as stated
 use Rattle.hexlines.proofs.tell_list.Code as code
@@ -88,7 +88,7 @@ turn = seq (assign (place 5 []) (rvOpd (copy (place 2 []))))
     (seq (cond (copy (place 4 [])) skipᴹ (exit 1))
     (seq (assign (place 6 []) (rvOpd (copy (place 2 []))))
     (seq (call #records·record-of (copy (place 6 []) ∷ []) (place 3 []))
-    (seq (call #lines·tell-record (copy (place 3 []) ∷ []) (place 7 []))
+    (seq (call #hexlines·tell-record (copy (place 3 []) ∷ []) (place 7 []))
     (seq (assign (place 8 []) (rvOpd (copy (place 2 []))))
     (call #records·moved (copy (place 8 []) ∷ []) (place 2 []))))))))
 
@@ -135,7 +135,7 @@ module _ {M : Type 1} (𝓤 : URA M) (H : Heap 𝓤) (A : Atoms 𝓤) (mem : Mem
     pub at-left : Triple 𝓤 (C #records·is-left) IsLeft
     pub at-record : Triple 𝓤 (C #records·record-of) RecordOf
     pub at-moved : Triple 𝓤 (C #records·moved) Moved
-    pub at-tell : Triple 𝓤 (C #lines·tell-record) Tell
+    pub at-tell : Triple 𝓤 (C #hexlines·tell-record) Tell
 
 module _ {M : Type 1} (𝓤 : URA M) (H : Heap 𝓤) (A : Atoms 𝓤) (W : Given 𝓤 H A) (mem : Memory → SProp 𝓤) (run : Routine → Fun 𝓤) (κ : Lft) (q : Share) (s : RefT (List ℕ)) where
   -- the machine value that s has
@@ -374,11 +374,11 @@ pub tell-list-spec : {M : Type 1} → stated.statement M
 unfolding code.routine tablesOf
 tell-list-spec 𝓤 H 𝓜 𝓖 𝓡 =
     entered 𝓤 H (tripleOf 𝓤 H (𝓖 .A) tell-list.signature (tell-list.spec 𝓤 H (𝓖 .A) (𝓜 .mem) (𝓡 .run)))
-    (tables 𝓤 H 𝓜 𝓡 code.env .C) (tables 𝓤 H 𝓜 𝓡 code.env .Λ) #lines·tell-list code.function (code.unfolded 𝓤 H 𝓜 𝓡)
+    (tables 𝓤 H 𝓜 𝓡 code.env .C) (tables 𝓤 H 𝓜 𝓡 code.env .Λ) #hexlines·tell-list code.function (code.unfolded 𝓤 H 𝓜 𝓡)
     (written-meets 𝓤 H (𝓖 .A) (givenOf 𝓤 H 𝓜 𝓖) (𝓜 .mem) (𝓡 .run) (tablesOf 𝓤 H 𝓜 (tables 𝓤 H 𝓜 𝓡 code.env)) (record {
       at-first = cited 𝓤 H (First 𝓤 H (𝓖 .A) (𝓜 .mem) (𝓡 .run)) 𝓜 𝓡 code.env #records·first first-def.routine code.calls-records·first (first-thm.met 𝓤 H 𝓜 𝓖 𝓡);
       at-left = cited 𝓤 H (IsLeft 𝓤 H (𝓖 .A) (𝓜 .mem) (𝓡 .run)) 𝓜 𝓡 code.env #records·is-left is-left-def.routine code.calls-records·is-left (is-left-thm.met 𝓤 H 𝓜 𝓖 𝓡);
       at-record = cited 𝓤 H (RecordOf 𝓤 H (𝓖 .A) (𝓜 .mem) (𝓡 .run)) 𝓜 𝓡 code.env #records·record-of record-of-def.routine code.calls-records·record-of (record-of-thm.met 𝓤 H 𝓜 𝓖 𝓡);
       at-moved = cited 𝓤 H (Moved 𝓤 H (𝓖 .A) (𝓜 .mem) (𝓡 .run)) 𝓜 𝓡 code.env #records·moved moves-def.routine code.calls-records·moved (moves-thm.met 𝓤 H 𝓜 𝓖 𝓡);
-      at-tell = cited 𝓤 H (Tell 𝓤 H (𝓖 .A) (𝓜 .mem) (𝓡 .run)) 𝓜 𝓡 code.env #lines·tell-record tell-def.routine code.calls-hexlines·tell-record (tell-thm.met 𝓤 H 𝓜 𝓖 𝓡);
+      at-tell = cited 𝓤 H (Tell 𝓤 H (𝓖 .A) (𝓜 .mem) (𝓡 .run)) 𝓜 𝓡 code.env #hexlines·tell-record tell-def.routine code.calls-hexlines·tell-record (tell-thm.met 𝓤 H 𝓜 𝓖 𝓡);
     }))
