@@ -1,9 +1,14 @@
 // Bits as letters: 0, 1 and X.
-ghost use Prim.Native.Nat.{_≤_};
+ghost use mathlib.Core.Path.{_≡_};
+ghost use Prim.Native.Nat.{_≤_, min};
 ghost use lib.ListN.{length};
+ghost use lib.Seq.{sets};
+ghost use Rattle.telling.specs.Bits.{bitOf, bitsOf};
 
 // A letter that says no bit gives 3, which every evaluation and run refuses (23).
-fn bit_of(letter: u8) -> u8 {
+fn bit_of(letter: u8) -> u8
+    ensures { λ r. ⌜ r ≡ bitOf letter ⌝ }
+{
     if letter == 48 {
         return 0;
     }
@@ -39,6 +44,8 @@ fn byte_behind(bytes: &[u8], at: usize, k: usize) -> u8 {
 // The bits that letters say, as many as there is room for; their number.
 pub fn put_bits(letters: &[u8], room: &mut [u8]) -> usize
     ensures { λ n. ⌜ n ≤ length (now (room .entry)) ⌝ }
+    ensures { λ n. ⌜ n ≡ min (length (now (letters .entry))) (length (now (room .entry))) ⌝ }
+    ensures { λ _. ⌜ now (room .exit) ≡ sets (now (room .entry)) 0 (bitsOf (now (letters .entry))) ⌝ }
 {
     let mut i: usize = 0;
     while i < letters.len() {
