@@ -6,11 +6,11 @@ use libc::STDOUT_FILENO;
 pub fn tell_help() {
     io::write_all(
         STDOUT_FILENO,
-        b"grackle: netlists for spare control cards, checked, listed and tried\n\n  grackle check FILE..             a line for each file: good, or why it is refused\n  grackle print FILE               the netlist in its one printed form\n  grackle list FILE                the load list, a line of hex for each record\n  grackle load FILE                the load list itself, as bytes\n  grackle eval [--bits] FILE BITS  the outputs of the netlist for these inputs\n  grackle run LIST BITS            the outputs of a load list for these inputs\n",
+        b"grackle: netlists for spare control cards, checked, listed and tried\n\n  grackle check FILE..             for each file a line: good, or why not\n  grackle print FILE               the netlist in its one printed form\n  grackle list FILE                the load list, a line of hex for each record\n  grackle load FILE                the load list itself, as bytes\n  grackle eval [--bits] FILE BITS  the outputs of the netlist for these inputs\n  grackle run LIST BITS            the outputs of a load list for these inputs\n",
     );
     io::write_all(
         STDOUT_FILENO,
-        b"  grackle names FILE               the full name of each ident\n  grackle pads FILE                each pad with its width in bits\n  grackle pad FILE NAME            the width of one pad\n  grackle help                     this page\n\nFILE is a netlist, LIST what `load` writes; `-` is standard input.\nBITS are 0, 1 or X (not known): first those of the first input, its bit 0 first.\nOutputs are told in the same order, with their names; --bits leaves these out.\nA refusal has a number, the byte where it is found (from 0), and its ground.\n",
+        b"  grackle names FILE               the full name of each ident\n  grackle pads FILE                each pad with its width in bits\n  grackle pad FILE NAME            the width of one pad\n  grackle help                     this page\n\nFILE is a netlist, LIST what `load` writes; `-` is standard input.\nBITS are 0, 1 or X (not known): the first input's first, each from bit 0 up.\nOutputs are told in the same order, with their names; --bits leaves these out.\nA refusal has a number, the byte where it is found (from 0), and its ground.\n",
     );
 }
 
