@@ -1,3 +1,4 @@
+pub mod EndToEnd
 pub mod Lines
 pub mod Promises
 pub mod Cases

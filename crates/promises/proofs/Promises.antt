@@ -34,6 +34,7 @@ use Rattle.evaluating.proofs.Settles.{settled, settled-is, settled-unique, eval
 use Rattle.translating.specs.Translation.{translation, recordSum}
 use Rattle.translating.proofs.Counting.{translation-count}
 use Rattle.translating.proofs.Passing.{translation-passes, translation-bytes, list-gives}
+use Rattle.promises.proofs.EndToEnd.{Answered, end-to-end}
 
 -- "document 01's good tables": good tables are exactly the layouts of valid netlists, and show the netlist again
 pub good-tables : (T : Tables) → Long T → (good T ≡ true → Layout T) × (Layout T → good T ≡ true)
@@ -67,6 +68,10 @@ tables-and-back = printed-return
 -- no two netlists have one text, whatever its length
 pub one-netlist : (M N : Netlist) → valid M ≡ true → valid N ≡ true → canonical M ≡ canonical N → M ≡ N
 one-netlist = one-text
+
+-- "Every byte sequence gets an answer: a netlist, or a numbered refusal with its place": from any bytes to tables, one text, one list, and its run
+pub from-any-bytes : (text rows strings bits work : List ℕ) → Answered text (readOf text rows strings bits work) (readOf text rows strings bits work .answer)
+from-any-bytes = end-to-end
 
 module _ (N : Netlist) (v : valid N ≡ true) where
   -- "whose cells form no ring": 20 is told exactly where a cell is reached from itself
