@@ -1,4 +1,5 @@
 pub mod EndToEnd
+pub mod OneAnswer
 pub mod Lines
 pub mod Promises
 pub mod Cases
