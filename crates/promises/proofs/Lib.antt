@@ -1,3 +1,6 @@
+mod Taking
+pub mod GoodTables
+pub mod Grounds
 pub mod EndToEnd
 pub mod OneAnswer
 pub mod Lines

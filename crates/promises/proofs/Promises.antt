@@ -1,16 +1,18 @@
--- THE PROMISES, as far as they are proved: each stated of the definitions, in the words of the tender.
-use mathlib.Core.Path.{_≡_, _∙_}
+-- THE PROMISES: each demand of the tender in its own words, stated of the definitions that the functions' contracts are equations with.
+-- Each is proved by citing; OneAnswer has the determinacy of every entry point, Grounds the refusals, EndToEnd what a text comes to.
+use mathlib.Core.Path.{_≡_}
 use mathlib.Core.Bool.{Bool, true, false}
-use mathlib.Core.List.{List}
+use mathlib.Core.List.{List, map}
 use mathlib.Core.Option.{Option, none}
 use Prim.Native.Nat.{ℕ, _*_, _<_, _≤_}
 use lib.ListN.{length, take}
-use Rattle.ground.specs.Regions.{zeros, over}
+use Rattle.ground.specs.Regions.{zeros, over, pad}
+use Rattle.ground.specs.declared.Refusal.{Refusal}
 use Rattle.netlist.specs.Netlist.{Netlist}
 use Rattle.netlist.specs.Rules.{valid}
 use Rattle.netlist.specs.Tables.{Tables, layout}
 use Rattle.netlist.specs.View.{view}
-use Rattle.netlist.specs.Good.{good, checkOf}
+use Rattle.netlist.specs.Good.{good, checkOf, netlistIn}
 use Rattle.netlist.specs.declared.Checked.the-variants as checked
 use Rattle.netlist.proofs.Laying.{Long, Layout, view-layout, good-is, layout-good}
 use Rattle.declaring.specs.Reading.{says, reading}
@@ -26,14 +28,27 @@ use Rattle.returning.proofs.RoundTrip.{returns, one-text}
 use Rattle.returning.proofs.TablesBack.{printed-return}
 use Rattle.loadlist.specs.Records.{listBytes}
 use Rattle.loadlist.specs.Check.{badRecord}
-use Rattle.loadlist.specs.Run.{outputs, assigns}
+use Rattle.loadlist.specs.Run.{slots, assigns, runOf}
+use Rattle.loadlist.specs.Run as run
+use Rattle.loadlist.specs.declared.Ran.the-variants as ran
 use Rattle.placing.specs.Placing.{Ringed, inputBits, outputsFrom, ringed}
 use Rattle.placing.proofs.Rings.{ringed-ring, ring-ringed}
 use Rattle.evaluating.specs.Settled.{Setting, Settled}
-use Rattle.evaluating.proofs.Settles.{settled, settled-is, settled-unique, evaluation-settled}
+use Rattle.evaluating.specs.Outcome.{evaluateOf}
+use Rattle.evaluating.specs.Outcome as evaluate
+use Rattle.evaluating.specs.declared.Evaluated.the-variants as evaluated
+use Rattle.evaluating.proofs.Settles.{settled, settled-is, settled-unique}
+use Rattle.translating.specs.Outcome.{translateOf}
+use Rattle.translating.specs.Outcome as translate
+use Rattle.translating.specs.declared.Translated.the-variants as translated
 use Rattle.translating.specs.Translation.{translation, recordSum}
 use Rattle.translating.proofs.Counting.{translation-count}
-use Rattle.translating.proofs.Passing.{translation-passes, translation-bytes, list-gives}
+use Rattle.translating.proofs.Passing.{translation-passes, translation-bytes}
+use Rattle.promises.specs.Asking.{Line, answerTo}
+use Rattle.promises.specs.Lines.{markedLines}
+use Rattle.promises.proofs.Lines.{lines-hold}
+use Rattle.promises.proofs.GoodTables.{list-made, list-runs, evaluation-made}
+use Rattle.promises.proofs.Grounds.{Unprinted, Unevaluated, Untranslated, Unrun, printing-refused, evaluation-refused, translation-refused, run-refused}
 use Rattle.promises.proofs.EndToEnd.{Answered, end-to-end}
 
 -- "document 01's good tables": good tables are exactly the layouts of valid netlists, and show the netlist again
@@ -55,11 +70,12 @@ read-language = read-says
 pub accepted-tables : (text rows strings bits work : List ℕ) → readOf text rows strings bits work .answer ≡ read.Accepted → Accepted text (readOf text rows strings bits work)
 accepted-tables = accepted-good
 
--- "printing gives one text per netlist, which reads back to the same": for a text within 65,536 bytes
+-- "Printing gives one text for each set of document 01's good tables. Where that text is within the reader's length limit, reading it
+-- gives the same tables back": of the netlist
 pub text-and-back : (N : Netlist) → valid N ≡ true → length (canonical N) ≤ 65536 → reading (canonical N) ≡ says N
 text-and-back = returns
 
--- good tables, printed and read, are the same tables, every word and byte
+-- .. and of the tables, every word and byte
 pub tables-and-back : (rows strings bits : List ℕ) → checkOf rows strings bits ≡ checked.Good → (room work : List ℕ) (n : ℕ)
     → printOf rows strings bits room .answer ≡ printed.Length n → n ≤ 65536 → workLength ≤ length work
     → readOf (take n (printOf rows strings bits room .room)) rows strings bits work ≡ made read.Accepted rows strings bits (over workLength (zeros workLength) work)
@@ -69,9 +85,42 @@ tables-and-back = printed-return
 pub one-netlist : (M N : Netlist) → valid M ≡ true → valid N ≡ true → canonical M ≡ canonical N → M ≡ N
 one-netlist = one-text
 
--- "Every byte sequence gets an answer: a netlist, or a numbered refusal with its place": from any bytes to tables, one text, one list, and its run
-pub from-any-bytes : (text rows strings bits work : List ℕ) → Answered text (readOf text rows strings bits work) (readOf text rows strings bits work .answer)
+-- Demand 1: "Every byte sequence gets an answer: a netlist, or a numbered refusal with its place .. and what a refusal leaves in lent
+-- memory is fixed": from any bytes to a refusal of a text that says no netlist, all tables zero; or to tables, one text, one list, its
+-- run and the evaluation
+pub from-any-bytes : (text rows strings bits work : List ℕ) → Answered text rows strings bits work (readOf text rows strings bits work .answer)
 from-any-bytes = end-to-end
+
+-- "This holds for lent tables, load lists and bench values as well as for text": each number that is told has its ground
+module _ (rows strings bits : List ℕ) (g : Refusal) where
+  pub printing-grounds : (room : List ℕ) → printOf rows strings bits room .answer ≡ printed.Refused g → Unprinted rows strings bits room g
+  printing-grounds room = printing-refused rows strings bits room g
+
+  pub evaluation-grounds : (ins outs work : List ℕ) → evaluateOf rows strings bits ins outs work .answer ≡ evaluated.Refused g → Unevaluated rows strings bits ins outs work g
+  evaluation-grounds ins outs work = evaluation-refused rows strings bits ins outs work g
+
+  -- Demand 3: "Translation is refused only on the grounds named there"
+  pub translation-grounds : (room work : List ℕ) → translateOf rows strings bits room work .answer ≡ translated.Refused g → Untranslated rows strings bits room work g
+  translation-grounds room work = translation-refused rows strings bits room work g
+
+pub run-grounds : (list ins outs work : List ℕ) (g : Refusal) → runOf list ins outs work .answer ≡ ran.Refused g → Unrun list ins outs work g
+run-grounds = run-refused
+
+-- Demand 3: "For every netlist whose cells form no ring and whose list by document 01's sum has at most 8,192 records, translation with
+-- enough lent room succeeds", of all good tables, read from a text or not
+module _ (rows strings bits : List ℕ) (h : checkOf rows strings bits ≡ checked.Good) (free : ringed (netlistIn rows strings bits) ≡ false) where
+  pub translation-succeeds : recordSum (netlistIn rows strings bits) ≤ 8192 → (room work : List ℕ) → 8 * recordSum (netlistIn rows strings bits) ≤ length room → 8192 ≤ length work
+      → translateOf rows strings bits room work
+      ≡ translate.made (translated.Records (recordSum (netlistIn rows strings bits))) (over (8 * recordSum (netlistIn rows strings bits)) (listBytes (translation (netlistIn rows strings bits))) room) (translate.cleared work)
+  translation-succeeds few room work l long = list-made rows strings bits h room work long free few l
+
+  -- and so does the evaluation, for every setting of the input bits
+  pub evaluation-succeeds : (ins : List ℕ) → assigns (inputBits (netlistIn rows strings bits)) ins ≡ true → (u : Setting) → Settled (netlistIn rows strings bits) ins u
+      → (outs work : List ℕ) → length (outputsFrom u (netlistIn rows strings bits)) ≤ length outs → 8192 ≤ length work
+      → evaluateOf rows strings bits ins outs work
+      ≡ evaluate.made (evaluated.Outputs (length (outputsFrom u (netlistIn rows strings bits))))
+      (over (length (outputsFrom u (netlistIn rows strings bits))) (outputsFrom u (netlistIn rows strings bits)) outs) (evaluate.cleared work)
+  evaluation-succeeds = evaluation-made rows strings bits h free
 
 module _ (N : Netlist) (v : valid N ≡ true) where
   -- "whose cells form no ring": 20 is told exactly where a cell is reached from itself
@@ -93,6 +142,15 @@ module _ (N : Netlist) (v : valid N ≡ true) where
       one-meaning = (settled-is N v ins free, settled-unique N v ins free)
 
       -- Demand 3: "For every setting of the input bits to 0, 1 or X, running the list gives at each output bit exactly the value that
-      -- the cell rules give the netlist, X included"
-      pub list-runs-netlist : assigns (inputBits N) ins ≡ true → (u : Setting) → Settled N ins u → outputs (listBytes (translation N)) ins ≡ outputsFrom u N
-      list-runs-netlist given u s = list-gives N v free ins given ∙ evaluation-settled N v ins free u s
+      -- the cell rules give the netlist, X included": the run is not refused, tells the number of output bits, and leaves them in the
+      -- room and the slots in the work space
+      pub list-runs-netlist : recordSum N ≤ 8192 → assigns (inputBits N) ins ≡ true → (u : Setting) → Settled N ins u → (outs work : List ℕ)
+          → length (outputsFrom u N) ≤ length outs → 8192 ≤ length work
+          → runOf (listBytes (translation N)) ins outs work
+          ≡ run.made (ran.Outputs (length (outputsFrom u N))) (over (length (outputsFrom u N)) (outputsFrom u N) outs)
+          (over 8192 (pad 8192 (slots (listBytes (translation N)) ins)) work)
+      list-runs-netlist few given u s outs work = list-runs N v free few ins given u s outs work
+
+-- "The P cases are proved of the definitions by one statement over a single list"
+pub lines-between-yes-and-no : map (λ (l : Line). answerTo (l .ask)) markedLines ≡ map (λ (l : Line). l .answer) markedLines
+lines-between-yes-and-no = lines-hold

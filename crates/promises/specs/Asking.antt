@@ -15,6 +15,9 @@ use Rattle.printing.specs.declared.Printed.the-variants as printed
 use Rattle.naming.specs.Names as name
 use Rattle.naming.specs.declared.Named.{Named}
 use Rattle.naming.specs.declared.Named.the-variants as named
+use Rattle.loadlist.specs.Check.{listedOf}
+use Rattle.loadlist.specs.declared.Listed.{Listed}
+use Rattle.loadlist.specs.declared.Listed.the-variants as listed
 use Rattle.loadlist.specs.Run as run
 use Rattle.loadlist.specs.declared.Ran.{Ran}
 use Rattle.loadlist.specs.declared.Ran.the-variants as ran
@@ -43,6 +46,8 @@ pub data Ask : Type 0 where
   toTranslate : ℕ → List ℕ → Ask
   -- the number of records told for that room
   toCount : ℕ → List ℕ → Ask
+  -- the numbers of input and output bits of a load list
+  toList : List ℕ → Ask
   -- the output bits of a load list for input bits, into room for so many
   toRun : ℕ → List ℕ → List ℕ → Ask
 
@@ -85,6 +90,11 @@ abbrev countAnswer : Translated → Answer
 countAnswer (translated.Records n) = counts n
 countAnswer (translated.Refused g) = told g
 
+-- 22: "load list malformed", at the first bad record
+abbrev listedAnswer : Listed → Answer
+listedAnswer (listed.Good inputs outputs) = gives inputs (outputs ∷ [])
+listedAnswer (listed.Bad k) = refusedAt 22 k
+
 abbrev ranAnswer : Ran → List ℕ → Answer
 ranAnswer (ran.Outputs n) outs = gives n outs
 ranAnswer (ran.Refused g) outs = told g
@@ -98,6 +108,7 @@ answerTo (toFind text wanted) = ofText (λ N. foundAnswer (lookup N wanted)) (re
 answerTo (toEvaluate room text ins) = ofText (λ N. let o = evaluate.evaluatedOf N ins (zeros room) [] in evaluatedAnswer (o .answer) (o .outs)) (reading text)
 answerTo (toTranslate room text) = ofText (λ N. let o = translate.translatedOf N (zeros room) [] in translatedAnswer (o .answer) (o .room)) (reading text)
 answerTo (toCount room text) = ofText (λ N. countAnswer (translate.translatedOf N (zeros room) [] .answer)) (reading text)
+answerTo (toList list) = listedAnswer (listedOf list)
 answerTo (toRun room list ins) = let o = run.runOf list ins (zeros room) (zeros run.workLength) in ranAnswer (o .answer) (o .outs)
 
 -- a case: what is asked, and the answer

@@ -62,7 +62,7 @@ listed = bytes "%9:1 = input \"a\"\n%3:1 = input \"b\"\n%0:2 = adc %9 %3 0\n%7:0
 abbrev pub listing : List ℕ
 listing = bytes "%0:1 = input \"a\"\n%1:1 = input \"b\"\n%2:2 = adc %0 %1 0\n%4:0 = output \"sum\" %2:2\n"
 
-abbrev record8 : ℕ → ℕ → ℕ → List ℕ
+abbrev pub record8 : ℕ → ℕ → ℕ → List ℕ
 record8 op first second = 0x47 ∷ 0x53 ∷ op ∷ 0 ∷ first ∷ 0 ∷ second ∷ 0 ∷ []
 
 abbrev pub loaded : List ℕ

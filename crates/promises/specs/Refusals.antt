@@ -3,8 +3,8 @@ use Prim.Native.Nat.{ℕ}
 use mathlib.Core.List.{List, [], _∷_, _++_}
 use lib.ListN.{replicate}
 use Rattle.ground.specs.Text.{bytes}
-use Rattle.promises.specs.Asking.{Line, line, toRead, toPrint, toName, toFind, toEvaluate, toTranslate, toRun, accepted, refusedAt, gives}
-use Rattle.promises.specs.Lines.{fifteen, loaded}
+use Rattle.promises.specs.Asking.{Line, line, toRead, toPrint, toName, toFind, toEvaluate, toTranslate, toList, toRun, accepted, refusedAt, gives}
+use Rattle.promises.specs.Lines.{fifteen, loaded, record8}
 
 abbrev names : List ℕ
 names = bytes "!0 = scope \"top\"\n!1 = scope #-3 in=!0\n!2 = ident \"clk\" in=!1\n&\"pin\":8 = io\n&\"gpio\":4 = io\n"
@@ -51,7 +51,19 @@ refusals =
     ∷ line (toRun 1 loaded (1 ∷ 1 ∷ [])) (refusedAt 24 0)
     ∷ line (toPrint 55 inverted) (refusedAt 24 0)
     ∷ line (toTranslate 71 inverted) (refusedAt 24 0)
+    -- two grounds at once: the smaller number
+    ∷ line (toRun 0 (0x47 ∷ 0x53 ∷ 4 ∷ 0 ∷ 0 ∷ 0 ∷ 0 ∷ 0 ∷ []) (3 ∷ [])) (refusedAt 22 0)
+    ∷ line (toRun 0 loaded (1 ∷ 3 ∷ [])) (refusedAt 23 0)
+    ∷ line (toEvaluate 0 (bytes "%0:1 = input \"a\"\n%1:1 = buf %1\n%2:0 = output \"y\" %0\n") (3 ∷ [])) (refusedAt 20 0)
+    ∷ line (toEvaluate 0 inverted (1 ∷ [])) (refusedAt 23 0)
+    ∷ line (toTranslate 0 (bytes "%0:1 = buf %0\n")) (refusedAt 20 0)
+    -- a begun record; two inputs and one output
+    ∷ line (toRun 2 (loaded ++ (0x47 ∷ [])) (1 ∷ 1 ∷ [])) (refusedAt 22 104)
+    ∷ line (toRun 1 (record8 0 0 0 ++ (record8 1 0 0 ++ (record8 2 0 0 ++ (record8 3 0 0 ++ (record8 3 1 0 ++ record8 8 3 0))))) (1 ∷ 2 ∷ [])) (gives 1 (1 ∷ []))
+    ∷ line (toList (0x47 ∷ [])) (refusedAt 22 0)
+    ∷ line (toList (loaded ++ (0x47 ∷ []))) (refusedAt 22 104)
     -- and where nothing is refused
+    ∷ line (toList loaded) (gives 2 (2 ∷ []))
     ∷ line (toRun 2 loaded (1 ∷ 1 ∷ [])) (gives 2 (0 ∷ 1 ∷ []))
     ∷ line (toEvaluate 3 inverted (1 ∷ 2 ∷ [])) (gives 2 (0 ∷ 2 ∷ 0 ∷ []))
     ∷ []

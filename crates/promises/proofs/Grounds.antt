@@ -1,0 +1,153 @@
+-- REFUSED ONLY ON THE GROUNDS NAMED: each number that printing, evaluation, translation and the run tell, with what then holds.
+-- Assumes nothing.
+use mathlib.Core.Path.{_≡_, refl, ap, _∙_, sym, subst}
+use mathlib.Core.Bool.{Bool, true, false, not, _||_}
+use mathlib.Core.List.{List}
+use mathlib.Core.Option.{Option, none, some}
+use Prim.Native.Nat.{ℕ, _*_}
+use native.Mathlib.Omega.{arith}
+use lib.Dec.{ltb}
+use lib.ListN.{length}
+use Rattle.ground.specs.Refusals.{at, refusal}
+use Rattle.ground.specs.declared.Refusal.{Refusal}
+use Rattle.ground.proofs.Bools.{bool-cases}
+use Rattle.netlist.specs.Netlist.{Netlist}
+use Rattle.netlist.specs.Tables.{tablesIn}
+use Rattle.netlist.specs.Good.{short, good, checkOf, netlistIn}
+use Rattle.lines.specs.Lines.{canonical}
+use Rattle.printing.specs.Outcome as printing
+use Rattle.printing.specs.declared.Printed.{Printed}
+use Rattle.printing.specs.declared.Printed.the-variants as printed
+use Rattle.loadlist.specs.Records.{inputOp}
+use Rattle.loadlist.specs.Check.{records, recordsWith, badRecord}
+use Rattle.loadlist.specs.Run.{outputs, assigns}
+use Rattle.loadlist.specs.Run as run
+use Rattle.loadlist.specs.declared.Ran.{Ran}
+use Rattle.loadlist.specs.declared.Ran.the-variants as ran
+use Rattle.placing.specs.Placing.{inputBits, ringed}
+use Rattle.evaluating.specs.Evaluation.{evaluation}
+use Rattle.evaluating.specs.Outcome as evaluating
+use Rattle.evaluating.specs.declared.Evaluated.{Evaluated}
+use Rattle.evaluating.specs.declared.Evaluated.the-variants as evaluated
+use Rattle.translating.specs.Outcome as translating
+use Rattle.translating.specs.Translation.{recordSum}
+use Rattle.translating.specs.declared.Translated.{Translated}
+use Rattle.translating.specs.declared.Translated.the-variants as translated
+
+-- TRANSLATION: 1, 15, 20, 21, 24
+pub data Untranslated (rows strings bits room work : List ℕ) : Refusal → Type 0 where
+  lent-short : short rows strings bits || ltb (length work) 8192 ≡ true → Untranslated rows strings bits room work (refusal 1 (at 0))
+  not-good : good (tablesIn rows strings bits) ≡ false → Untranslated rows strings bits room work (refusal 15 (at 0))
+  in-ring : ringed (netlistIn rows strings bits) ≡ true → Untranslated rows strings bits room work (refusal 20 (at 0))
+  too-many : ltb 8192 (recordSum (netlistIn rows strings bits)) ≡ true → Untranslated rows strings bits room work (refusal 21 (at 0))
+  no-room : ltb (length room) (8 * recordSum (netlistIn rows strings bits)) ≡ true → Untranslated rows strings bits room work (refusal 24 (at 0))
+
+abbrev toldTranslated : Translated → Refusal
+toldTranslated (translated.Refused g) = g
+toldTranslated (translated.Records n) = refusal 0 (at 0)
+
+module _ (rows strings bits room work : List ℕ) (g : Refusal) where
+  translated-by : (h : Refusal) → translated.Refused h ≡ translated.Refused g → Untranslated rows strings bits room work h → Untranslated rows strings bits room work g
+  translated-by h e u = subst (λ (q : Refusal). Untranslated rows strings bits room work q) (ap toldTranslated e) u
+
+  pub translation-refused : translating.translateOf rows strings bits room work .answer ≡ translated.Refused g → Untranslated rows strings bits room work g
+  unfolding translating.translateOf
+  translation-refused e =
+      bool-cases (short rows strings bits || ltb (length work) 8192)
+      (λ a. translated-by (refusal 1 (at 0)) (rw a at e) (lent-short a))
+      (λ a. bool-cases (good (tablesIn rows strings bits))
+      (λ b. bool-cases (ringed (netlistIn rows strings bits))
+      (λ c. translated-by (refusal 20 (at 0)) (rw (a, b, c) at e) (in-ring c))
+      (λ c. bool-cases (ltb 8192 (recordSum (netlistIn rows strings bits)))
+      (λ d. translated-by (refusal 21 (at 0)) (rw (a, b, c, d) at e) (too-many d))
+      (λ d. bool-cases (ltb (length room) (8 * recordSum (netlistIn rows strings bits)))
+      (λ f. translated-by (refusal 24 (at 0)) (rw (a, b, c, d, f) at e) (no-room f))
+      (λ f. let z : _≡_ {A = ℕ} 0 1 = cc (rw (a, b, c, d, f) at e) in absurd (omega arith)))))
+      (λ b. translated-by (refusal 15 (at 0)) (rw (a, b) at e) (not-good b)))
+
+-- EVALUATION: 1, 15, 20, 23, 24
+pub data Unevaluated (rows strings bits ins outs work : List ℕ) : Refusal → Type 0 where
+  lent-short : short rows strings bits || ltb (length work) 8192 ≡ true → Unevaluated rows strings bits ins outs work (refusal 1 (at 0))
+  not-good : good (tablesIn rows strings bits) ≡ false → Unevaluated rows strings bits ins outs work (refusal 15 (at 0))
+  in-ring : ringed (netlistIn rows strings bits) ≡ true → Unevaluated rows strings bits ins outs work (refusal 20 (at 0))
+  unassigned : assigns (inputBits (netlistIn rows strings bits)) ins ≡ false → Unevaluated rows strings bits ins outs work (refusal 23 (at 0))
+  no-room : ltb (length outs) (length (evaluation (netlistIn rows strings bits) ins)) ≡ true → Unevaluated rows strings bits ins outs work (refusal 24 (at 0))
+
+abbrev toldEvaluated : Evaluated → Refusal
+toldEvaluated (evaluated.Refused g) = g
+toldEvaluated (evaluated.Outputs n) = refusal 0 (at 0)
+
+module _ (rows strings bits ins outs work : List ℕ) (g : Refusal) where
+  evaluated-by : (h : Refusal) → evaluated.Refused h ≡ evaluated.Refused g → Unevaluated rows strings bits ins outs work h → Unevaluated rows strings bits ins outs work g
+  evaluated-by h e u = subst (λ (q : Refusal). Unevaluated rows strings bits ins outs work q) (ap toldEvaluated e) u
+
+  pub evaluation-refused : evaluating.evaluateOf rows strings bits ins outs work .answer ≡ evaluated.Refused g → Unevaluated rows strings bits ins outs work g
+  unfolding evaluating.evaluateOf
+  evaluation-refused e =
+      bool-cases (short rows strings bits || ltb (length work) 8192)
+      (λ a. evaluated-by (refusal 1 (at 0)) (rw a at e) (lent-short a))
+      (λ a. bool-cases (good (tablesIn rows strings bits))
+      (λ b. bool-cases (ringed (netlistIn rows strings bits))
+      (λ c. evaluated-by (refusal 20 (at 0)) (rw (a, b, c) at e) (in-ring c))
+      (λ c. bool-cases (assigns (inputBits (netlistIn rows strings bits)) ins)
+      (λ d. bool-cases (ltb (length outs) (length (evaluation (netlistIn rows strings bits) ins)))
+      (λ f. evaluated-by (refusal 24 (at 0)) (rw (a, b, c, d, f) at e) (no-room f))
+      (λ f. let z : _≡_ {A = ℕ} 0 1 = cc (rw (a, b, c, d, f) at e) in absurd (omega arith)))
+      (λ d. evaluated-by (refusal 23 (at 0)) (rw (a, b, c, d) at e) (unassigned d))))
+      (λ b. evaluated-by (refusal 15 (at 0)) (rw (a, b) at e) (not-good b)))
+
+-- THE RUN of a list: 1, 22 at its first bad record, 23, 24
+pub data Unrun (list ins outs work : List ℕ) : Refusal → Type 0 where
+  lent-short : ltb (length work) 8192 ≡ true → Unrun list ins outs work (refusal 1 (at 0))
+  malformed : (k : ℕ) → badRecord list ≡ some k → Unrun list ins outs work (refusal 22 (at k))
+  unassigned : assigns (recordsWith inputOp (records list)) ins ≡ false → Unrun list ins outs work (refusal 23 (at 0))
+  no-room : ltb (length outs) (length (outputs list ins)) ≡ true → Unrun list ins outs work (refusal 24 (at 0))
+
+abbrev toldRan : Ran → Refusal
+toldRan (ran.Refused g) = g
+toldRan (ran.Outputs n) = refusal 0 (at 0)
+
+module _ (list ins outs work : List ℕ) (g : Refusal) where
+  ran-by : (h : Refusal) → ran.Refused h ≡ ran.Refused g → Unrun list ins outs work h → Unrun list ins outs work g
+  ran-by h e u = subst (λ (q : Refusal). Unrun list ins outs work q) (ap toldRan e) u
+
+  of-records : (b : Option ℕ) → badRecord list ≡ b → run.ranFrom b list ins outs work .answer ≡ ran.Refused g → Unrun list ins outs work g
+  of-records (some k) b e = ran-by (refusal 22 (at k)) e (malformed k b)
+  of-records none b e =
+      bool-cases (assigns (recordsWith inputOp (records list)) ins)
+      (λ c. bool-cases (ltb (length outs) (length (outputs list ins)))
+      (λ d. ran-by (refusal 24 (at 0)) (rw (c, d) at e) (no-room d))
+      (λ d. let z : _≡_ {A = ℕ} 0 1 = cc (rw (c, d) at e) in absurd (omega arith)))
+      (λ c. ran-by (refusal 23 (at 0)) (rw c at e) (unassigned c))
+
+  pub run-refused : run.runOf list ins outs work .answer ≡ ran.Refused g → Unrun list ins outs work g
+  unfolding run.runOf
+  run-refused e =
+      bool-cases (ltb (length work) 8192)
+      (λ a. ran-by (refusal 1 (at 0)) (rw a at e) (lent-short a))
+      (λ a. of-records (badRecord list) refl (rw a at e))
+
+-- PRINTING: 1, 15, 24
+pub data Unprinted (rows strings bits room : List ℕ) : Refusal → Type 0 where
+  lent-short : short rows strings bits ≡ true → Unprinted rows strings bits room (refusal 1 (at 0))
+  not-good : good (tablesIn rows strings bits) ≡ false → Unprinted rows strings bits room (refusal 15 (at 0))
+  no-room : ltb (length room) (length (canonical (netlistIn rows strings bits))) ≡ true → Unprinted rows strings bits room (refusal 24 (at 0))
+
+abbrev toldPrinted : Printed → Refusal
+toldPrinted (printed.Refused g) = g
+toldPrinted (printed.Length n) = refusal 0 (at 0)
+
+module _ (rows strings bits room : List ℕ) (g : Refusal) where
+  printed-by : (h : Refusal) → printed.Refused h ≡ printed.Refused g → Unprinted rows strings bits room h → Unprinted rows strings bits room g
+  printed-by h e u = subst (λ (q : Refusal). Unprinted rows strings bits room q) (ap toldPrinted e) u
+
+  pub printing-refused : printing.printOf rows strings bits room .answer ≡ printed.Refused g → Unprinted rows strings bits room g
+  unfolding printing.printOf printing.written checkOf
+  printing-refused e =
+      bool-cases (short rows strings bits)
+      (λ a. printed-by (refusal 1 (at 0)) (rw a at e) (lent-short a))
+      (λ a. bool-cases (good (tablesIn rows strings bits))
+      (λ b. bool-cases (ltb (length room) (length (canonical (netlistIn rows strings bits))))
+      (λ c. printed-by (refusal 24 (at 0)) (rw (a, b, c) at e) (no-room c))
+      (λ c. let z : _≡_ {A = ℕ} 0 1 = cc (rw (a, b, c) at e) in absurd (omega arith)))
+      (λ b. printed-by (refusal 15 (at 0)) (rw (a, b) at e) (not-good b)))
