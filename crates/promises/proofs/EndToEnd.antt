@@ -12,6 +12,7 @@ use Rattle.ground.specs.Refusals.{at, refusal}
 use Rattle.ground.specs.Regions.{over, pad}
 use Rattle.ground.specs.declared.Refusal.{Refusal}
 use Rattle.netlist.specs.Netlist.{Netlist}
+use Rattle.netlist.specs.Rules.{valid}
 use Rattle.netlist.specs.Good.{short, checkOf, netlistIn}
 use Rattle.netlist.specs.declared.Checked.the-variants as checked
 use Rattle.declaring.specs.Reading.{Reading, says, refused, reading}
@@ -43,6 +44,7 @@ use Rattle.promises.proofs.GoodTables.{shown-valid, text-printed, in-ri
 pub record Card (text : List ℕ) (o : reading.Outcome) : Type 0 where
   pub netlist : Netlist
   pub said : Says text netlist
+  pub sound : valid netlist ≡ true
   pub good : checkOf (o .rows) (o .strings) (o .bits) ≡ checked.Good
   pub shown : netlistIn (o .rows) (o .strings) (o .bits) ≡ netlist
   pub printed : (room : List ℕ) → length (canonical netlist) ≤ length room
@@ -68,6 +70,7 @@ module _ (text : List ℕ) (o : reading.Outcome) (a : Accepted text o) where
   card = record {
     netlist = netlistIn (o .rows) (o .strings) (o .bits);
     said = subst (λ (N : Netlist). Says text N) (sym (a .shown)) (read-says text (a .netlist) (a .said));
+    sound = shown-valid (o .rows) (o .strings) (o .bits) (a .good);
     good = a .good;
     shown = refl;
     printed = text-printed (o .rows) (o .strings) (o .bits) (a .good);

@@ -1,7 +1,8 @@
 -- THE PROMISES: each demand of the tender in its own words, stated of the definitions that the functions' contracts are equations with.
 -- Each is proved by citing; OneAnswer has the determinacy of every entry point, Grounds the refusals, EndToEnd what a text comes to.
 use mathlib.Core.Path.{_≡_}
-use mathlib.Core.Bool.{Bool, true, false}
+use mathlib.Core.Bool.{Bool, true, false, _||_}
+use lib.Dec.{ltb}
 use mathlib.Core.List.{List, map}
 use mathlib.Core.Option.{Option, none}
 use Prim.Native.Nat.{ℕ, _*_, _<_, _≤_}
@@ -10,9 +11,9 @@ use Rattle.ground.specs.Regions.{zeros, over, pad}
 use Rattle.ground.specs.declared.Refusal.{Refusal}
 use Rattle.netlist.specs.Netlist.{Netlist}
 use Rattle.netlist.specs.Rules.{valid}
-use Rattle.netlist.specs.Tables.{Tables, layout}
+use Rattle.netlist.specs.Tables.{Tables, layout, rowsLength, stringsLength, bitsLength}
 use Rattle.netlist.specs.View.{view}
-use Rattle.netlist.specs.Good.{good, checkOf, netlistIn}
+use Rattle.netlist.specs.Good.{good, short, checkOf, netlistIn}
 use Rattle.netlist.specs.declared.Checked.the-variants as checked
 use Rattle.netlist.proofs.Laying.{Long, Layout, view-layout, good-is, layout-good}
 use Rattle.declaring.specs.Reading.{says, reading}
@@ -20,12 +21,13 @@ use Rattle.reading.specs.Outcome.{readOf, made, workLength}
 use Rattle.reading.specs.declared.Read.the-variants as read
 use Rattle.lines.specs.Lines.{canonical}
 use Rattle.printing.specs.Outcome.{printOf}
+use Rattle.printing.specs.Outcome as print
 use Rattle.printing.specs.declared.Printed.the-variants as printed
-use Rattle.accepting.proofs.Good.{Accepted, accepted-good}
+use Rattle.accepting.proofs.Good.{Accepted, accepted-good, says-accepted}
 use Rattle.language.specs.Language.{Says}
 use Rattle.language.proofs.Exactly.{says-read, read-says}
 use Rattle.returning.proofs.RoundTrip.{returns, one-text}
-use Rattle.returning.proofs.TablesBack.{printed-return}
+use Rattle.returning.proofs.TablesBack.{printed-return, tables-return, one-table}
 use Rattle.loadlist.specs.Records.{listBytes}
 use Rattle.loadlist.specs.Check.{badRecord}
 use Rattle.loadlist.specs.Run.{slots, assigns, runOf}
@@ -47,8 +49,9 @@ use Rattle.translating.proofs.Passing.{translation-passes, translation-bytes}
 use Rattle.promises.specs.Asking.{Line, answerTo}
 use Rattle.promises.specs.Lines.{markedLines}
 use Rattle.promises.proofs.Lines.{lines-hold}
-use Rattle.promises.proofs.GoodTables.{list-made, list-runs, evaluation-made}
+use Rattle.promises.proofs.GoodTables.{text-printed, list-made, list-runs, evaluation-made}
 use Rattle.promises.proofs.Grounds.{Unprinted, Unevaluated, Untranslated, Unrun, printing-refused, evaluation-refused, translation-refused, run-refused}
+use Rattle.promises.proofs.Leaving.{Left, printing-leaves, evaluation-leaves, translation-leaves, run-leaves}
 use Rattle.promises.proofs.EndToEnd.{Answered, end-to-end}
 
 -- "document 01's good tables": good tables are exactly the layouts of valid netlists, and show the netlist again
@@ -66,6 +69,11 @@ language-read = says-read
 pub read-language : (text : List ℕ) (N : Netlist) → reading text ≡ says N → Says text N
 read-language = read-says
 
+-- the reader itself accepts every text of the language, where the lent slices have their lengths
+pub language-accepted : (text rows strings bits work : List ℕ) (N : Netlist) → Says text N → short rows strings bits ≡ false → workLength ≤ length work
+    → readOf text rows strings bits work .answer ≡ read.Accepted
+language-accepted text rows strings bits work N s = says-accepted text rows strings bits work N (says-read text N s)
+
 -- what reading accepts is good, and shows what the text says
 pub accepted-tables : (text rows strings bits work : List ℕ) → readOf text rows strings bits work .answer ≡ read.Accepted → Accepted text (readOf text rows strings bits work)
 accepted-tables = accepted-good
@@ -80,6 +88,26 @@ pub tables-and-back : (rows strings bits : List ℕ) → checkOf rows strings bi
     → printOf rows strings bits room .answer ≡ printed.Length n → n ≤ 65536 → workLength ≤ length work
     → readOf (take n (printOf rows strings bits room .room)) rows strings bits work ≡ made read.Accepted rows strings bits (over workLength (zeros workLength) work)
 tables-and-back = printed-return
+
+-- .. read into any lent slices of the fixed lengths, whatever they held
+pub tables-given-back : (rows strings bits : List ℕ) → checkOf rows strings bits ≡ checked.Good → (rows′ strings′ bits′ work : List ℕ)
+    → length (canonical (netlistIn rows strings bits)) ≤ 65536 → short rows′ strings′ bits′ ≡ false → workLength ≤ length work
+    → readOf (canonical (netlistIn rows strings bits)) rows′ strings′ bits′ work
+    ≡ made read.Accepted (over rowsLength (take rowsLength rows) rows′) (over stringsLength (take stringsLength strings) strings′)
+    (over bitsLength (take bitsLength bits) bits′) (over workLength (zeros workLength) work)
+tables-given-back = tables-return
+
+-- "Printing gives one text for each set of document 01's good tables": it is printed, wherever the room takes it
+pub text-printed-whole : (rows strings bits : List ℕ) → checkOf rows strings bits ≡ checked.Good → (room : List ℕ) → length (canonical (netlistIn rows strings bits)) ≤ length room
+    → printOf rows strings bits room
+    ≡ print.made (printed.Length (length (canonical (netlistIn rows strings bits)))) (over (length (canonical (netlistIn rows strings bits))) (canonical (netlistIn rows strings bits)) room)
+text-printed-whole = text-printed
+
+-- .. and no two good tables have one text
+pub one-label : (rows strings bits rows′ strings′ bits′ : List ℕ) → checkOf rows strings bits ≡ checked.Good → checkOf rows′ strings′ bits′ ≡ checked.Good
+    → canonical (netlistIn rows strings bits) ≡ canonical (netlistIn rows′ strings′ bits′)
+    → (take rowsLength rows ≡ take rowsLength rows′) × (take stringsLength strings ≡ take stringsLength strings′) × (take bitsLength bits ≡ take bitsLength bits′)
+one-label = one-table
 
 -- no two netlists have one text, whatever its length
 pub one-netlist : (M N : Netlist) → valid M ≡ true → valid N ≡ true → canonical M ≡ canonical N → M ≡ N
@@ -105,6 +133,23 @@ module _ (rows strings bits : List ℕ) (g : Refusal) where
 
 pub run-grounds : (list ins outs work : List ℕ) (g : Refusal) → runOf list ins outs work .answer ≡ ran.Refused g → Unrun list ins outs work g
 run-grounds = run-refused
+
+-- "what a refusal leaves in lent memory is fixed": rooms as they were, work space zero, or as it was after 1
+module _ (rows strings bits : List ℕ) (g : Refusal) where
+  pub printing-left : (room : List ℕ) → printOf rows strings bits room .answer ≡ printed.Refused g → printOf rows strings bits room .room ≡ room
+  printing-left room = printing-leaves rows strings bits room g
+
+  pub evaluation-left : (ins outs work : List ℕ) → evaluateOf rows strings bits ins outs work .answer ≡ evaluated.Refused g
+      → Left (short rows strings bits || ltb (length work) 8192) outs (evaluateOf rows strings bits ins outs work .outs) work (evaluateOf rows strings bits ins outs work .work)
+  evaluation-left ins outs work = evaluation-leaves rows strings bits ins outs work g
+
+  pub translation-left : (room work : List ℕ) → translateOf rows strings bits room work .answer ≡ translated.Refused g
+      → Left (short rows strings bits || ltb (length work) 8192) room (translateOf rows strings bits room work .room) work (translateOf rows strings bits room work .work)
+  translation-left room work = translation-leaves rows strings bits room work g
+
+pub run-left : (list ins outs work : List ℕ) (g : Refusal) → runOf list ins outs work .answer ≡ ran.Refused g
+    → Left (ltb (length work) 8192) outs (runOf list ins outs work .outs) work (runOf list ins outs work .work)
+run-left = run-leaves
 
 -- Demand 3: "For every netlist whose cells form no ring and whose list by document 01's sum has at most 8,192 records, translation with
 -- enough lent room succeeds", of all good tables, read from a text or not
