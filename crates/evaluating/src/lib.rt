@@ -10,6 +10,9 @@ use good::evaluate_tables;
 use good::refused;
 use ground::Refusal;
 use netlist::Checked;
+use regions::cells_of;
+use regions::run_trits_of;
+use regions::runs_of;
 ghost use mathlib.Core.Path.{_≡_};
 ghost use mathlib.Core.Bool.{true};
 ghost use Prim.Native.Nat.{_≤_};
@@ -38,9 +41,9 @@ fn evaluate_good(
     ensures { λ r. ⌜ made r (now (outs .exit)) (now (work .exit)) ≡ evaluatedOf (netlistIn (now (rows .entry)) (now (strings .entry)) (now (bits .entry))) (now (ins .entry)) (now (outs .entry)) (now (work .entry)) ⌝ }
 {
     evaluate_tables(
-        &rows[9411..14019],
-        &rows[14019..26307],
-        &bits[131072..393728],
+        cells_of(rows),
+        runs_of(rows),
+        run_trits_of(bits),
         word_of(rows, 2),
         ins,
         outs,
