@@ -11,6 +11,9 @@ use checkmeta::rows::word_of;
 use clearing::clear_words;
 use ground::Refusal;
 use netlist::Checked;
+use regions::cells_of;
+use regions::run_trits_of;
+use regions::runs_of;
 use tables::refused;
 use tables::translate_tables;
 ghost use mathlib.Core.Path.{_≡_};
@@ -40,9 +43,9 @@ fn translate_good(
 {
     let n = word_of(rows, 2);
     translate_tables(
-        &rows[9411..14019],
-        &rows[14019..26307],
-        &bits[131072..393728],
+        cells_of(rows),
+        runs_of(rows),
+        run_trits_of(bits),
         n,
         room,
         work,

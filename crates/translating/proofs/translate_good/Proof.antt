@@ -1,4 +1,5 @@
 use native.Mathlib.Omega.{arith}
+use Rattle.ground.specs.Regions.{part}
 use Rattle.checking.proofs.Top.{checked-good}
 use Rattle.translating.proofs.Lent.{cut-sound, is-translated}
 use borrow.Author.Needs.{needs}
@@ -8,35 +9,18 @@ use Rattle.translating.proofs.translate_good.Tie as tie
 word-of-requires : tie.Need-word-of-requires
 word-of-requires c κs = let a = c .before .before .before .before .before .args in omega (arith, checked-good (a .rows .now) (a .strings .now) (a .bits .now) (c .before .before .before .before .before .pre .0) .0 .rows-long)
 
-sub-translate-tables : tie.Need-sub-translate-tables
-sub-translate-tables c = search needs
+cells-of-requires : tie.Need-cells-of-requires
+cells-of-requires c κs = search needs
 
-part-translate-tables-start : tie.Need-part-translate-tables-start
-part-translate-tables-start c = search needs
+runs-of-requires : tie.Need-runs-of-requires
+runs-of-requires c κs = search needs
 
-part-translate-tables-end : tie.Need-part-translate-tables-end
-part-translate-tables-end c = let a = c .before .before .before .before .before .before .args in omega (arith, checked-good (a .rows .now) (a .strings .now) (a .bits .now) (c .before .before .before .before .before .before .pre .0) .0 .rows-long)
-
-sub-translate-tables-2 : tie.Need-sub-translate-tables-2
-sub-translate-tables-2 c = search needs
-
-part-translate-tables-start-2 : tie.Need-part-translate-tables-start-2
-part-translate-tables-start-2 c = search needs
-
-part-translate-tables-end-2 : tie.Need-part-translate-tables-end-2
-part-translate-tables-end-2 c = let a = c .before .before .before .before .before .before .before .args in omega (arith, checked-good (a .rows .now) (a .strings .now) (a .bits .now) (c .before .before .before .before .before .before .before .pre .0) .0 .rows-long)
-
-sub-translate-tables-3 : tie.Need-sub-translate-tables-3
-sub-translate-tables-3 c = search needs
-
-part-translate-tables-start-3 : tie.Need-part-translate-tables-start-3
-part-translate-tables-start-3 c = search needs
-
-part-translate-tables-end-3 : tie.Need-part-translate-tables-end-3
-part-translate-tables-end-3 c = let a = c .before .before .before .before .before .before .before .before .args in omega (arith, checked-good (a .rows .now) (a .strings .now) (a .bits .now) (c .before .before .before .before .before .before .before .before .pre .0) .0 .bits-long)
+run-trits-of-requires : tie.Need-run-trits-of-requires
+run-trits-of-requires c κs = search needs
 
 translate-tables-requires : tie.Need-translate-tables-requires
-translate-tables-requires c κs = let a = c .before .before .before .before .before .before .before .before .before .before .before .args in (rw (c .before .before .before .before .before .word-of .ensures .0) (cut-sound (a .rows .now) (a .strings .now) (a .bits .now) (c .before .before .before .before .before .before .before .before .before .before .before .pre .0)), c .before .before .before .before .before .before .before .before .before .before .before .pre .1)
+unfolding part
+translate-tables-requires c κs = let a = c .before .before .before .before .before .before .before .before .before .before .before .args in rw (c .before .before .before .before .cells-of .ensures, c .before .before .before .runs-of .ensures, c .before .before .run-trits-of .ensures) (rw (c .before .before .before .before .before .word-of .ensures .0) (cut-sound (a .rows .now) (a .strings .now) (a .bits .now) (c .before .before .before .before .before .before .before .before .before .before .before .pre .0)), c .before .before .before .before .before .before .before .before .before .before .before .pre .1)
 
 same-length : tie.Need-same-length
 same-length c = search needs
@@ -45,22 +29,17 @@ same-length-2 : tie.Need-same-length-2
 same-length-2 c = search needs
 
 returns : tie.Need-returns
-returns c = let a = c .before .before .before .before .before .before .before .before .before .before .before .before .before .before .before .before .args in is-translated (a .rows .now) (a .strings .now) (a .bits .now) (c .before .before .before .before .before .before .before .before .before .before .before .before .before .before .before .before .pre .0) (c .before .before .before .before .before .before .before .before .before .before .word-of .result) (c .before .before .before .before .before .before .before .before .before .before .word-of .ensures .0) (c .before .before .before .before .translate-tables .ensures)
+unfolding part
+returns c = let a = c .before .before .before .before .before .before .before .before .before .before .before .before .before .before .before .before .args in let e = c .before .before .before .before .translate-tables .ensures in is-translated (a .rows .now) (a .strings .now) (a .bits .now) (c .before .before .before .before .before .before .before .before .before .before .before .before .before .before .before .before .pre .0) (c .before .before .before .before .before .before .before .before .before .before .word-of .result) (c .before .before .before .before .before .before .before .before .before .before .word-of .ensures .0) (rw (c .before .before .before .before .before .before .before .before .before .cells-of .ensures, c .before .before .before .before .before .before .before .before .runs-of .ensures, c .before .before .before .before .before .before .before .run-trits-of .ensures) at e)
 
 pub translate-good-spec : {M : Type 1} → statement M
 translate-good-spec =
     tie.close
     (tie.spec
     word-of-requires
-    sub-translate-tables
-    part-translate-tables-start
-    part-translate-tables-end
-    sub-translate-tables-2
-    part-translate-tables-start-2
-    part-translate-tables-end-2
-    sub-translate-tables-3
-    part-translate-tables-start-3
-    part-translate-tables-end-3
+    cells-of-requires
+    runs-of-requires
+    run-trits-of-requires
     translate-tables-requires
     same-length
     same-length-2
