@@ -3,6 +3,10 @@ use crate::Read;
 use finishing::finish::finish;
 use ground::Refusal;
 use noting::Tally;
+use regions::cell_numbers_of;
+use regions::cells_of;
+use regions::places_of;
+use regions::runs_of;
 use resolving::Lost;
 use resolving::first_lost;
 use resolving::runs_resolve;
@@ -21,12 +25,7 @@ fn all_found(rows: &[u32], work: &[u32], n: Tally) -> bool
     if n.bare {
         return false;
     }
-    runs_resolve(
-        &work[0..65536],
-        &rows[9411..14019],
-        &rows[14019..26307],
-        n.runs,
-    )
+    runs_resolve(cell_numbers_of(work), cells_of(rows), runs_of(rows), n.runs)
 }
 
 // The first piece of the text that does not resolve; the text is read again only where the run rows do not tell that each does.
@@ -40,10 +39,10 @@ fn lost_piece(t: &[u8; 256], text: &[u8], rows: &[u32], work: &[u32], n: Tally) 
     first_lost(
         t,
         text,
-        &work[131072..132608],
+        places_of(work),
         n.cells * 3,
-        &work[0..65536],
-        &rows[9411..14019],
+        cell_numbers_of(work),
+        cells_of(rows),
     )
 }
 

@@ -9,6 +9,8 @@ use declaring::declarations::declarations;
 use ending::end_reading;
 use ground::Place;
 use ground::Refusal;
+use regions::trits_end;
+use regions::work_end;
 use scanning::Whole;
 use scanning::scan::whole;
 use signs::classes::classes;
@@ -116,7 +118,8 @@ fn read_past_work(
     requires { ⌜ (length (now rows) ≡ 26307) × (length (now strings) ≡ 16384) × (length (now bits) ≡ 393728) × (132608 ≤ length (now work)) ⌝ }
     ensures { λ r. ⌜ made r (now (rows .exit)) (now (strings .exit)) (now (bits .exit)) (now (work .exit)) ≡ behindWork (now (work .entry)) (filled (reading (now (text .entry)))) ⌝ }
 {
-    read_in(text, rows, strings, bits, &mut work[0..132608])
+    let end = work_end();
+    read_in(text, rows, strings, bits, &mut work[0..end])
 }
 
 // The same with trits lent past their fixed length, too.
@@ -130,7 +133,8 @@ fn read_past_bits(
     requires { ⌜ (length (now rows) ≡ 26307) × (length (now strings) ≡ 16384) × (393728 ≤ length (now bits)) × (132608 ≤ length (now work)) ⌝ }
     ensures { λ r. ⌜ made r (now (rows .exit)) (now (strings .exit)) (now (bits .exit)) (now (work .exit)) ≡ behindBits (now (bits .entry)) (behindWork (now (work .entry)) (filled (reading (now (text .entry))))) ⌝ }
 {
-    read_past_work(text, rows, strings, &mut bits[0..393728], work)
+    let end = trits_end();
+    read_past_work(text, rows, strings, &mut bits[0..end], work)
 }
 
 // The same with strings lent past their fixed length, too.
