@@ -516,9 +516,6 @@ checked-good rows strings bits h = bool-cases (ltb (length rows) 26307 || (ltb (
     (λ g. let z : _≡_ {A = ℕ} 0 1 = cc (rw (e, g) at h) in absurd (omega arith)))
 
 -- THE SLICES ARE CUT into their regions
-pub cut-length : (t : List ℕ) (a n : ℕ) → a + n ≤ length t → length (take n (drop a t)) ≡ n
-cut-length t a n h = simp (length-take, length-drop) (omega arith)
-
 abbrev pub cuts : List ℕ → List ℕ → List ℕ → ℕ → ℕ → ℕ → Tables
 cuts rows strings bits m i c = regions m i c (take 8192 (drop 3 rows)) (take 1024 (drop 8195 rows)) (take 192 (drop 9219 rows)) (take 4608 (drop 9411 rows)) (take 12288 (drop 14019 rows)) (take 16384 (drop 0 strings)) (take 131072 (drop 0 bits)) (take 262656 (drop 131072 bits))
 
