@@ -14,6 +14,7 @@ use Rattle.ground.specs.Choice.{pick}
 use Rattle.ground.specs.Regions.{blank, part}
 use Rattle.ground.specs.Text.{same}
 use Rattle.ground.proofs.Bools.{bool-cases, and-true}
+use Rattle.ground.proofs.Regions.{part-length}
 use Rattle.ground.proofs.Rest.{rest-cons, rest-end, rest-rest}
 use Rattle.netlist.specs.Rules.{taken, distinct}
 use Rattle.netlist.specs.View.{word}
@@ -214,3 +215,8 @@ cells-named S n rows ws bits runs metas s x y z v w l h k = record {
   long = h;
   each = λ i q. let e : 0 + i ≡ i = zero-add i in rw l (rw e at (cells-there n ws bits runs metas rows 0 s 0 0 0 0 x y z v w k i q));
 }
+
+-- a region is as long as its size
+pub cut-is : (t : List ℕ) (from size : ℕ) → from + size ≤ length t → (take (from + size - from) (drop from t) ≡ part from size t) × (length (take (from + size - from) (drop from t)) ≡ size)
+unfolding part
+cut-is t from size h = let e : from + size - from ≡ size = omega arith in rw e (refl, part-length from size t h)

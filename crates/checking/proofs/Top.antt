@@ -1,37 +1,34 @@
 -- The check part by part decides whether tables are good.
 use mathlib.Core.Path.{_≡_, refl, sym, ap, ap₂, _∙_, subst}
-use mathlib.Core.Bool.{Bool, true, false, not, _&&_, _||_}
+use mathlib.Core.Bool.{true, false, _&&_, _||_}
 use mathlib.Core.List.{List, [], _∷_, _++_, append-assoc}
 use Prim.Native.Nat.{ℕ, zero, suc, _+_, _-_, _*_, _<_, _≤_}
 use native.Mathlib.Omega.{arith}
 use native.Mathlib.Nat.{zero-add}
 use lib.Dec.{eqb, leb, ltb}
 use lib.ListN.{length, drop, take, getD, length-append, length-drop, length-take}
-use lib.Seq.{drop-append-seam}
-use borrow.Author.Tests.{leb-true, le-leb, eq-eqb, eqb-true, ltb-false, le-ltb}
-use Rattle.ground.specs.Choice.{pick}
-use Rattle.ground.specs.Lists.{every, allOf, joined, total}
+use borrow.Author.Tests.{leb-true, le-leb, eqb-true, ltb-false}
+use Rattle.ground.specs.Lists.{every, joined, total}
 use Rattle.ground.specs.Regions.{blank, fits, part}
 use Rattle.ground.proofs.Bools.{bool-cases, never-both, and-true, true-and, or-false, fact, facts}
 use Rattle.ground.proofs.Regions.{fits-on}
-use Rattle.netlist.specs.Netlist.{Run, Meta, Io, Cell, Netlist, metaStrings, stringsOf, membersOf, attrBitsOf, runsOf, runBitsOf}
+use Rattle.netlist.specs.Netlist.{Run, Meta, Io, Cell, metaStrings, membersOf, attrBitsOf, runsOf, runBitsOf}
 use Rattle.netlist.specs.Rules.{isByte, isNumber, distinct, ioNames, namesAs, metasSound, ioSound, cellSound, widthsOf, outputBits, roomy, valid}
-use Rattle.netlist.specs.Tables.{Tables, metaRows, ioRows, cellRows, runRows, ioStart, cellStart, tablesIn}
+use Rattle.netlist.specs.Tables.{Tables, metaRows, ioRows, cellRows, runRows, tablesIn}
 use Rattle.netlist.specs.View.{metasIn, ioIn, iosIn, cellsIn, poolIn, view}
 use Rattle.netlist.specs.Good.{laid, good, short, checkOf, ioFrom, lookupOf}
-use Rattle.netlist.specs.declared.Checked.{Checked}
 use Rattle.netlist.specs.declared.Checked.the-variants as checked
-use Rattle.netlist.specs.declared.Found.{Found}
 use Rattle.netlist.specs.declared.Found.the-variants as found
 use Rattle.ground.specs.Refusals.{at, refusal}
 use Rattle.ground.specs.Text.{same}
-use Rattle.netlist.proofs.Laying.{Roomy, valid-roomy, valid-metas, valid-cells, Long}
+use Rattle.netlist.proofs.Laying.{valid-roomy, valid-metas, valid-cells, Long}
 use Rattle.netlist.proofs.Lengths.{length-runRows}
 use Rattle.checkmeta.specs.Fields.{kindsIn}
 use Rattle.checkmeta.specs.Walk.{metasWalk}
 use Rattle.checkmeta.specs.declared.rows.Metas.{Metas}
 use Rattle.checkmeta.specs.declared.rows.Metas.the-variants as metas
 use Rattle.checkmeta.proofs.Fits.{none, same-test, every-take, every-part}
+use Rattle.checkmeta.proofs.Laws.{every-below}
 use Rattle.checkmeta.proofs.Link as meta
 use Rattle.checkcells.specs.Runs.{widthsIn}
 use Rattle.checkcells.specs.Walk.{cellsWalk}
@@ -41,7 +38,7 @@ use Rattle.checkcells.proofs.CellLink as cellpool
 use Rattle.checkcells.proofs.Link as cell
 use Rattle.checking.specs.Names.{ioNamesIn, cellNamesIn, IosNamed}
 use Rattle.checking.specs.Walk.{iosWalk}
-use Rattle.checking.specs.Parts.{metasEnd, metasPart, iosEnd, iosPart, cellsEnd, cellsPart, andThen, blankFrom, partsGood, regions, stringsAlone}
+use Rattle.checking.specs.Parts.{metasEnd, metasPart, iosEnd, iosPart, cellsEnd, cellsPart, andThen, blankFrom, partsGood, metasUpto, iosUpto, cellsUpto, regions, stringsAlone}
 use Rattle.checking.specs.declared.ios.Upto.{Upto}
 use Rattle.checking.specs.declared.ios.Upto.the-variants.{Wrong, At}
 use Rattle.checking.proofs.IoLink as io
@@ -446,29 +443,9 @@ module _ (T : Tables) (l : Lent T) (g : good T ≡ true) where
 pub decides : (T : Tables) → Lent T → partsGood T ≡ good T
 decides T l = same-test (partsGood T) (good T) (parts-good T l) (λ g. all-right T l g)
 
--- the same, as the code finds it
-module _ (T : Tables) (l : Lent T) where
-  pub metas-wrong : metasPart (T .metas) (T .members) (T .attrBits) (T .metaCount) ≡ Wrong → false ≡ good T
-  unfolding partsGood
-  metas-wrong p = (rw p at (decides T l))
-
-  pub ios-wrong : (s : ℕ) → metasPart (T .metas) (T .members) (T .attrBits) (T .metaCount) ≡ At s → iosPart (T .ios) (T .strings) (T .ioCount) s ≡ Wrong → false ≡ good T
-  unfolding partsGood
-  ios-wrong s p q = (rw (p, q) at (decides T l))
-
-  pub cells-wrong : (s t : ℕ) → metasPart (T .metas) (T .members) (T .attrBits) (T .metaCount) ≡ At s → iosPart (T .ios) (T .strings) (T .ioCount) s ≡ At t
-      → cellsPart (T .cells) (T .runs) (T .runBits) (T .strings) (T .cellCount) (T .metaCount) t ≡ Wrong → false ≡ good T
-  unfolding partsGood
-  cells-wrong s t p q r = (rw (p, q, r) at (decides T l))
-
-  pub to-the-end : (s t x : ℕ) → metasPart (T .metas) (T .members) (T .attrBits) (T .metaCount) ≡ At s → iosPart (T .ios) (T .strings) (T .ioCount) s ≡ At t
-      → cellsPart (T .cells) (T .runs) (T .runBits) (T .strings) (T .cellCount) (T .metaCount) t ≡ At x → blank (drop x (T .strings)) ≡ good T
-  unfolding partsGood
-  to-the-end s t x p q r = (rw (p, q, r) at (decides T l))
-
-  -- in good tables the names of I/O rows are there
-  pub good-named : good T ≡ true → IosNamed (T .strings) (T .ioCount) (T .ios)
-  good-named g = let v = rules T l g in ios-named (T .strings) (T .ioCount) (T .ios) (from T l g) (until T l g) (l .long .strings) (omega (arith, v .ios-most, l .long .ios)) (ios-right T l g)
+-- in good tables the names of I/O rows are there
+pub good-named : (T : Tables) (l : Lent T) → good T ≡ true → IosNamed (T .strings) (T .ioCount) (T .ios)
+good-named T l g = let v = rules T l g in ios-named (T .strings) (T .ioCount) (T .ios) (from T l g) (until T l g) (l .long .strings) (omega (arith, v .ios-most, l .long .ios)) (ios-right T l g)
 
 -- I/O rows need the strings alone
 abbrev ioWith : List ℕ → List ℕ → Io
@@ -539,36 +516,52 @@ checked-good rows strings bits h = bool-cases (ltb (length rows) 26307 || (ltb (
     (λ g. let z : _≡_ {A = ℕ} 0 1 = cc (rw (e, g) at h) in absurd (omega arith)))
 
 -- THE SLICES ARE CUT into their regions
-pub cut-length : (t : List ℕ) (a n : ℕ) → a + n ≤ length t → length (take n (drop a t)) ≡ n
-cut-length t a n h = simp (length-take, length-drop) (omega arith)
-
 abbrev pub cuts : List ℕ → List ℕ → List ℕ → ℕ → ℕ → ℕ → Tables
 cuts rows strings bits m i c = regions m i c (take 8192 (drop 3 rows)) (take 1024 (drop 8195 rows)) (take 192 (drop 9219 rows)) (take 4608 (drop 9411 rows)) (take 12288 (drop 14019 rows)) (take 16384 (drop 0 strings)) (take 131072 (drop 0 bits)) (take 262656 (drop 131072 bits))
 
-cuts-are : (rows strings bits : List ℕ) → cuts rows strings bits (getD rows 0 0) (getD rows 1 0) (getD rows 2 0) ≡ tablesIn rows strings bits
-unfolding tablesIn part
-cuts-are rows strings bits = refl
+pub metas-cut : (rows bits metas members attrs : List ℕ) (n : ℕ) (r : Upto) → metas ≡ part 3 8192 rows → members ≡ part 8195 1024 rows → attrs ≡ part 0 131072 bits → n ≡ getD rows 0 0 → r ≡ metasPart metas members attrs n → r ≡ metasUpto rows bits
+unfolding metasUpto
+metas-cut rows bits metas members attrs n r e f g h p = p ∙ rw (e, f, g, h)
 
-module _ (rows strings bits : List ℕ) (m i c : ℕ) (p : m ≡ getD rows 0 0) (q : i ≡ getD rows 1 0) (r : c ≡ getD rows 2 0) where
-  good-cuts : good (cuts rows strings bits m i c) ≡ good (tablesIn rows strings bits)
-  good-cuts =
-      ap (λ (u : ℕ). good (cuts rows strings bits u i c)) p ∙ ap (λ (u : ℕ). good (cuts rows strings bits (getD rows 0 0) u c)) q
-      ∙ ap (λ (u : ℕ). good (cuts rows strings bits (getD rows 0 0) (getD rows 1 0) u)) r ∙ ap good (cuts-are rows strings bits)
+pub ios-cut : (rows strings ios : List ℕ) (n s : ℕ) (r : Upto) → ios ≡ part 9219 192 rows → n ≡ getD rows 1 0 → r ≡ iosPart ios strings n s → r ≡ iosUpto rows strings s
+unfolding iosUpto
+ios-cut rows strings ios n s r e h p = p ∙ rw (e, h)
 
-  pub check-good : 26307 ≤ length rows → 16384 ≤ length strings → 393728 ≤ length bits → true ≡ good (cuts rows strings bits m i c) → checked.Good ≡ checkOf rows strings bits
-  unfolding checkOf short
-  check-good x y z g = let k : good (tablesIn rows strings bits) ≡ true = sym (g ∙ good-cuts) in rw (le-ltb (length rows) 26307 x, le-ltb (length strings) 16384 y, le-ltb (length bits) 393728 z, k)
+pub cells-cut : (rows strings bits cells runs trits : List ℕ) (n m s : ℕ) (r : Upto) → cells ≡ part 9411 4608 rows → runs ≡ part 14019 12288 rows → trits ≡ part 131072 262656 bits → n ≡ getD rows 2 0 → m ≡ getD rows 0 0
+    → r ≡ cellsPart cells runs trits strings n m s → r ≡ cellsUpto rows strings bits s
+unfolding cellsUpto
+cells-cut rows strings bits cells runs trits n m s r e f g h k p = p ∙ rw (e, f, g, h, k)
 
-  pub check-bad : 26307 ≤ length rows → 16384 ≤ length strings → 393728 ≤ length bits → false ≡ good (cuts rows strings bits m i c) → checked.Refused (refusal 15 (at 0)) ≡ checkOf rows strings bits
-  unfolding checkOf short
-  check-bad x y z g = let k : good (tablesIn rows strings bits) ≡ false = sym (g ∙ good-cuts) in rw (le-ltb (length rows) 26307 x, le-ltb (length strings) 16384 y, le-ltb (length bits) 393728 z, k)
+-- the parts of the slices decide, as the code finds it
+module _ (rows strings bits text : List ℕ) (h : (26307 ≤ length rows) × (16384 ≤ length strings) × (393728 ≤ length bits)) (b : (i : ℕ) → getD strings i 0 < 256) (w : (i : ℕ) → getD rows i 0 < 4294967296) (e : text ≡ part 0 16384 strings) where
+  decided : blankFrom text (andThen (metasUpto rows bits) (λ s. andThen (iosUpto rows text s) (λ t. cellsUpto rows text bits t))) ≡ good (tablesIn rows strings bits)
+  unfolding partsGood metasUpto iosUpto cellsUpto tablesIn part
+  decided =
+      rw e
+      (decides (tablesIn rows strings bits)
+      (lent-in rows strings bits (record { rows-long = h .0; strings-long = h .1; bits-long = h .2 }) (every-below 256 strings b) (every-below 4294967296 rows w)))
+
+  pub metas-wrong : metasUpto rows bits ≡ Wrong → false ≡ good (tablesIn rows strings bits)
+  metas-wrong p = (rw p at decided)
+
+  pub ios-wrong : (s : ℕ) → metasUpto rows bits ≡ At s → iosUpto rows text s ≡ Wrong → false ≡ good (tablesIn rows strings bits)
+  ios-wrong s p q = (rw (p, q) at decided)
+
+  pub cells-wrong : (s t : ℕ) → metasUpto rows bits ≡ At s → iosUpto rows text s ≡ At t → cellsUpto rows text bits t ≡ Wrong → false ≡ good (tablesIn rows strings bits)
+  cells-wrong s t p q r = (rw (p, q, r) at decided)
+
+  pub to-the-end : (s t x : ℕ) → metasUpto rows bits ≡ At s → iosUpto rows text s ≡ At t → cellsUpto rows text bits t ≡ At x → blank (drop x text) ≡ good (tablesIn rows strings bits)
+  to-the-end s t x p q r = (rw (p, q, r) at decided)
 
 -- THE LOOKUP in tables that the check calls good
-module _ (rows strings bits : List ℕ) (h : checkOf rows strings bits ≡ checked.Good) (b : every isByte strings ≡ true) (w : every isNumber rows ≡ true) (i : ℕ) (q : i ≡ getD rows 1 0) where
-  pub found-named : IosNamed (take 16384 (drop 0 strings)) i (take 192 (drop 9219 rows))
+module _ (rows strings bits : List ℕ) (h : checkOf rows strings bits ≡ checked.Good) (b : (i : ℕ) → getD strings i 0 < 256) (w : (i : ℕ) → getD rows i 0 < 4294967296)
+    (ios text : List ℕ) (n : ℕ) (e : ios ≡ part 9219 192 rows) (f : text ≡ part 0 16384 strings) (q : n ≡ getD rows 1 0) where
+  pub found-named : IosNamed text n ios
   unfolding tablesIn part
-  found-named = let k = checked-good rows strings bits h in rw q (good-named (tablesIn rows strings bits) (lent-in rows strings bits (k .0) b w) (k .1))
+  found-named =
+      let k = checked-good rows strings bits h in
+      rw (e, f, q) (good-named (tablesIn rows strings bits) (lent-in rows strings bits (k .0) (every-below 256 strings b) (every-below 4294967296 rows w)) (k .1))
 
-  pub found-is : (name : List ℕ) → ioFrom (iosIn (stringsAlone (take 16384 (drop 0 strings))) i (take 192 (drop 9219 rows))) 0 name ≡ lookupOf rows strings bits name
+  pub found-is : (name : List ℕ) → ioFrom (iosIn (stringsAlone text) n ios) 0 name ≡ lookupOf rows strings bits name
   unfolding lookupOf view tablesIn part
-  found-is name = rw (h, q) (ap (λ (l : List Io). ioFrom l 0 name) (ios-alone (stringsAlone (take 16384 strings)) (tablesIn rows strings bits) refl (getD rows 1 0) (take 192 (drop 9219 rows))))
+  found-is name = rw (h, e, f, q) (ap (λ (l : List Io). ioFrom l 0 name) (ios-alone (stringsAlone (take 16384 strings)) (tablesIn rows strings bits) refl (getD rows 1 0) (take 192 (drop 9219 rows))))

@@ -3,9 +3,9 @@ use Prim.Native.Nat.{ℕ, _*_}
 use mathlib.Core.Bool.{Bool, false, _&&_}
 use mathlib.Core.List.{List, []}
 use lib.Dec.{leb}
-use lib.ListN.{drop}
+use lib.ListN.{drop, getD}
 use Rattle.ground.specs.Choice.{pick}
-use Rattle.ground.specs.Regions.{blank}
+use Rattle.ground.specs.Regions.{blank, part}
 use Rattle.netlist.specs.Rules.{distinct}
 use Rattle.netlist.specs.Tables.{Tables}
 use Rattle.checkmeta.specs.Walk.{metasWalk}
@@ -66,6 +66,16 @@ partsGood T =
     (andThen (metasPart (T .metas) (T .members) (T .attrBits) (T .metaCount)) (λ s.
     andThen (iosPart (T .ios) (T .strings) (T .ioCount) s) (λ t.
     cellsPart (T .cells) (T .runs) (T .runBits) (T .strings) (T .cellCount) (T .metaCount) t)))
+
+-- the parts of lent slices, from rows and trits of any length and from strings cut to theirs
+unfoldable pub metasUpto : List ℕ → List ℕ → Upto
+metasUpto rows bits = metasPart (part 3 8192 rows) (part 8195 1024 rows) (part 0 131072 bits) (getD rows 0 0)
+
+unfoldable pub iosUpto : List ℕ → List ℕ → ℕ → Upto
+iosUpto rows strings s = iosPart (part 9219 192 rows) strings (getD rows 1 0) s
+
+unfoldable pub cellsUpto : List ℕ → List ℕ → List ℕ → ℕ → Upto
+cellsUpto rows strings bits s = cellsPart (part 9411 4608 rows) (part 14019 12288 rows) (part 131072 262656 bits) strings (getD rows 2 0) (getD rows 0 0) s
 
 -- tables by their counts and regions
 abbrev pub regions : ℕ → ℕ → ℕ → List ℕ → List ℕ → List ℕ → List ℕ → List ℕ → List ℕ → List ℕ → List ℕ → Tables

@@ -5,6 +5,7 @@ mod blank;
 pub mod ios;
 pub mod names;
 pub mod parts;
+pub mod regions;
 
 use crate::blank::no_bytes;
 use crate::ios::Upto;
@@ -12,19 +13,23 @@ use crate::names::io_named;
 use crate::parts::cells_part;
 use crate::parts::ios_part;
 use crate::parts::metas_part;
+use crate::regions::bytes;
+use crate::regions::words;
 use checkmeta::rows::word_of;
 use ground::Place;
 use ground::Refusal;
 use netlist::Checked;
 use netlist::Found;
 ghost use mathlib.Core.Path.{_≡_};
-ghost use Prim.Native.Nat.{_+_, _*_};
-ghost use lib.ListN.{length, drop};
+ghost use Prim.Native.Nat.{_≤_};
+ghost use lib.ListN.{length};
 ghost use Rattle.ground.specs.Refusals.{at, refusal};
 ghost use Rattle.netlist.specs.Good.{good, checkOf, lookupOf, ioFrom};
+ghost use Rattle.netlist.specs.Tables.{tablesIn};
 ghost use Rattle.netlist.specs.View.{iosIn};
 ghost use Rattle.checking.specs.Names.{IosNamed};
-ghost use Rattle.checking.specs.Parts.{regions, stringsAlone};
+ghost use Rattle.checking.specs.Parts.{metasUpto, iosUpto, cellsUpto, stringsAlone};
+ghost use Rattle.checking.specs.Walk.{uptoOf};
 
 fn refused(number: u8) -> Refusal
     ensures { λ r. ⌜ r ≡ refusal number (at 0) ⌝ }
@@ -33,30 +38,56 @@ fn refused(number: u8) -> Refusal
     Refusal { number, place }
 }
 
-// Whether the tables in these regions are good.
-fn tables_good(
-    metas: &[u32],
-    members: &[u32],
-    ios: &[u32],
-    cells: &[u32],
-    runs: &[u32],
-    strings: &[u8],
-    attrs: &[u8],
-    trits: &[u8],
-    nm: usize,
-    ni: usize,
-    nc: usize,
-) -> bool
-    requires { ⌜ (length (now metas) ≡ 8192) × (length (now members) ≡ 1024) × (length (now ios) ≡ 192) × (length (now cells) ≡ 4608) × (length (now runs) ≡ 12288) × (length (now strings) ≡ 16384) × (length (now attrs) ≡ 131072) × (length (now trits) ≡ 262656) ⌝ }
-    ensures { λ r. ⌜ r ≡ good (regions nm ni nc (now (metas .entry)) (now (members .entry)) (now (ios .entry)) (now (cells .entry)) (now (runs .entry)) (now (strings .entry)) (now (attrs .entry)) (now (trits .entry))) ⌝ }
+// The metadata of the tables. Each part cuts out its own regions, so that few are in hand at once.
+fn metas_region(rows: &[u32], bits: &[u8]) -> Upto
+    requires { ⌜ (26307 ≤ length (now rows)) × (393728 ≤ length (now bits)) ⌝ }
+    ensures { λ r. ⌜ (r ≡ metasUpto (now (rows .entry)) (now (bits .entry))) × (uptoOf r ≤ 16384) ⌝ }
 {
-    match metas_part(metas, members, attrs, nm) {
+    metas_part(
+        words(rows, 3, 8192),
+        words(rows, 8195, 1024),
+        bytes(bits, 0, 131072),
+        word_of(rows, 0),
+    )
+}
+
+// The I/O rows, whose names begin at s.
+fn ios_region(rows: &[u32], strings: &[u8], s: usize) -> Upto
+    requires { ⌜ (26307 ≤ length (now rows)) × (length (now strings) ≡ 16384) × (s ≤ 16384) ⌝ }
+    ensures { λ r. ⌜ (r ≡ iosUpto (now (rows .entry)) (now (strings .entry)) s) × (uptoOf r ≤ 16384) ⌝ }
+{
+    ios_part(words(rows, 9219, 192), strings, word_of(rows, 1), s)
+}
+
+// The cells, whose names begin at s.
+fn cells_region(rows: &[u32], strings: &[u8], bits: &[u8], s: usize) -> Upto
+    requires { ⌜ (26307 ≤ length (now rows)) × (length (now strings) ≡ 16384) × (393728 ≤ length (now bits)) × (s ≤ 16384) ⌝ }
+    ensures { λ r. ⌜ r ≡ cellsUpto (now (rows .entry)) (now (strings .entry)) (now (bits .entry)) s ⌝ }
+{
+    cells_part(
+        words(rows, 9411, 4608),
+        words(rows, 14019, 12288),
+        bytes(bits, 131072, 262656),
+        strings,
+        word_of(rows, 2),
+        word_of(rows, 0),
+        s,
+    )
+}
+
+// Whether the tables in slices that are long enough are good.
+fn tables_good(rows: &[u32], strings: &[u8], bits: &[u8]) -> bool
+    requires { ⌜ (26307 ≤ length (now rows)) × (16384 ≤ length (now strings)) × (393728 ≤ length (now bits)) ⌝ }
+    ensures { λ r. ⌜ r ≡ good (tablesIn (now (rows .entry)) (now (strings .entry)) (now (bits .entry))) ⌝ }
+{
+    let text = bytes(strings, 0, 16384);
+    match metas_region(rows, bits) {
         Upto::Wrong => false,
-        Upto::At(s) => match ios_part(ios, strings, ni, s) {
+        Upto::At(s) => match ios_region(rows, text, s) {
             Upto::Wrong => false,
-            Upto::At(t) => match cells_part(cells, runs, trits, strings, nc, nm, t) {
+            Upto::At(t) => match cells_region(rows, text, bits, t) {
                 Upto::Wrong => false,
-                Upto::At(x) => no_bytes(strings, x),
+                Upto::At(x) => no_bytes(text, x),
             },
         },
     }
@@ -75,19 +106,7 @@ pub fn check_tables(rows: &[u32], strings: &[u8], bits: &[u8]) -> Checked
     if bits.len() < 393728 {
         return Checked::Refused(refused(1));
     }
-    if tables_good(
-        &rows[3..8195],
-        &rows[8195..9219],
-        &rows[9219..9411],
-        &rows[9411..14019],
-        &rows[14019..26307],
-        &strings[0..16384],
-        &bits[0..131072],
-        &bits[131072..393728],
-        word_of(rows, 0),
-        word_of(rows, 1),
-        word_of(rows, 2),
-    ) {
+    if tables_good(rows, strings, bits) {
         return Checked::Good;
     }
     Checked::Refused(refused(15))
@@ -116,8 +135,8 @@ pub fn lookup_io(rows: &[u32], strings: &[u8], bits: &[u8], name: &[u8]) -> Foun
         Checked::Refused(g) => Found::Refused(g),
         Checked::Good => {
             find_io(
-                &rows[9219..9411],
-                &strings[0..16384],
+                words(rows, 9219, 192),
+                bytes(strings, 0, 16384),
                 word_of(rows, 1),
                 name,
             )

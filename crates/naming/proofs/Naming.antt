@@ -5,7 +5,7 @@ use mathlib.Core.Bool.{Bool, true, false, _&&_}
 use mathlib.Core.List.{List, [], _∷_, _++_}
 use native.Mathlib.Omega.{arith}
 use lib.Dec.{leb, ltb, eqb}
-use lib.ListN.{length, take, drop, getD, length-append}
+use lib.ListN.{length, drop, getD, length-append}
 use lib.Seq.{getD-drop, drop-drop}
 use borrow.Author.Tests.{eq-eqb, ne-eqb, eqb-true, eqb-false, leb-true, ltb-true}
 use Rattle.ground.specs.Choice.{pick}
@@ -13,6 +13,7 @@ use Rattle.ground.specs.Regions.{part}
 use Rattle.ground.specs.declared.Refusal.{Refusal}
 use Rattle.ground.proofs.Bools.{bool-cases, never-both, and-true, fact}
 use Rattle.ground.proofs.Outcome.{any-two}
+use Rattle.ground.proofs.Regions.{part-length}
 use Rattle.netlist.specs.Netlist.{Meta, Netlist, isScope, indexedMeta, identMeta}
 use Rattle.netlist.specs.Rules.{refers, mayRefer, metaSound, metasSound, valid}
 use Rattle.netlist.specs.Tables.{Tables, tablesIn}
@@ -20,7 +21,7 @@ use Rattle.netlist.specs.View.{metaIn, metasIn, view}
 use Rattle.netlist.specs.Good.{laid, good, checkOf}
 use Rattle.netlist.specs.declared.Checked.the-variants as checked
 use Rattle.netlist.proofs.Laying.{valid-roomy, valid-metas}
-use Rattle.checking.proofs.Top.{checked-good, cut-length}
+use Rattle.checking.proofs.Top.{checked-good}
 use Rattle.writing.specs.Decimal.{signed}
 use Rattle.naming.specs.Names.{Outcome, made, given, noMeta, metaAt, ownName, nameFrom, isIdent, written, nameOf}
 use Rattle.naming.specs.Rows.{fieldAt, parentAt, ownAt, nameAt, identAt, Rising, asked}
@@ -154,20 +155,22 @@ module _ (T : Tables) where
 
 -- ANY LENT TABLES: 1 and 15 as the check says, else what is asked of the rows
 module _ (rows strings bits : List ℕ) where
-  pub cut-rising : checkOf rows strings bits ≡ checked.Good → Rising (getD rows 0 0) (take 8192 (drop 3 rows))
-  unfolding tablesIn part
-  cut-rising h =
-      let k = checked-good rows strings bits h in
-      good-rising (tablesIn rows strings bits) (cut-length rows 3 8192 (omega (arith, k .0 .rows-long))) (k .1)
+  module _ (metas : List ℕ) (m : metas ≡ part 3 8192 rows) where
+    pub cut-rising : checkOf rows strings bits ≡ checked.Good → Rising (getD rows 0 0) metas
+    unfolding tablesIn
+    cut-rising h =
+        let k = checked-good rows strings bits h in
+        rw m (good-rising (tablesIn rows strings bits) (part-length 3 8192 rows (omega (arith, k .0 .rows-long))) (k .1))
 
-  module _ (row : ℕ) (room : List ℕ) where
-    pub not-named : (g : Refusal) → checkOf rows strings bits ≡ checked.Refused g → made (named.Refused g) room ≡ nameOf rows strings bits row room
-    unfolding nameOf
-    not-named g h = rw h
-
-    pub is-named : (o : Outcome) → checkOf rows strings bits ≡ checked.Good → o ≡ asked (getD rows 0 0) (take 8192 (drop 3 rows)) (take 16384 (drop 0 strings)) row room → o ≡ nameOf rows strings bits row room
+    pub is-named : (row : ℕ) (room : List ℕ) (o : Outcome) (text : List ℕ) → text ≡ part 0 16384 strings → checkOf rows strings bits ≡ checked.Good → o ≡ asked (getD rows 0 0) metas text row room → o ≡ nameOf rows strings bits row room
     unfolding nameOf tablesIn part
-    is-named o h e = rw h (e ∙ asked-is (tablesIn rows strings bits) (cut-rising h) row room)
+    is-named row room o text t h e =
+        let r : Rising (getD rows 0 0) (part 3 8192 rows) = rw m at (cut-rising h) in
+        rw h ((rw (m, t) at e) ∙ asked-is (tablesIn rows strings bits) r row room)
+
+  pub not-named : (row : ℕ) (room : List ℕ) (g : Refusal) → checkOf rows strings bits ≡ checked.Refused g → made (named.Refused g) room ≡ nameOf rows strings bits row room
+  unfolding nameOf
+  not-named row room g h = rw h
 
 -- EACH ANSWER IS DETERMINED: two outcomes that the contract allows are equal
 pub name-one : (rows strings bits : List ℕ) (row : ℕ) (room : List ℕ) (o p : Outcome) → o ≡ nameOf rows strings bits row room → p ≡ nameOf rows strings bits row room → o ≡ p

@@ -3,6 +3,8 @@
 mod names;
 
 use checking::check_tables;
+use checking::regions::bytes;
+use checking::regions::words;
 use ground::Place;
 use ground::Refusal;
 use names::count_name;
@@ -67,6 +69,10 @@ pub fn full_name(rows: &[u32], strings: &[u8], bits: &[u8], row: usize, room: &m
 {
     match check_tables(rows, strings, bits) {
         Checked::Refused(g) => Named::Refused(g),
-        Checked::Good => name_in(room, &rows[3..8195], &strings[0..16384], rows[0], row),
+        Checked::Good => {
+            let metas = words(rows, 3, 8192);
+            let text = bytes(strings, 0, 16384);
+            name_in(room, metas, text, rows[0], row)
+        }
     }
 }

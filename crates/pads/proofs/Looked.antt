@@ -6,7 +6,7 @@ use Prim.Native.Nat.{ℕ, zero, suc, _+_, _*_, _-_, _≤_, _<_}
 use native.Mathlib.Numerals.{add-one}
 use native.Mathlib.Omega.{arith}
 use lib.Dec.{ltb}
-use lib.ListN.{length, take, drop, getD, length-take, length-drop}
+use lib.ListN.{length, drop, getD}
 use lib.Seq.{drop-drop}
 use borrow.Author.Tests.{lt-ltb, le-ltb}
 use Rattle.ground.specs.Choice.{pick}
@@ -127,9 +127,6 @@ module _ (strings name : List ℕ) where
     none-found h =
         let l : 0 + n ≤ k = omega arith in
         (rw (le-ltb k (0 + n) l) at all-upto)
-
-pub region-long : (rows : List ℕ) → 26307 ≤ length rows → length (take 192 (drop 9219 rows)) ≡ 192
-region-long rows h = simp (length-take, length-drop) (omega arith)
 
 -- one outcome each
 pub named-one : (strings name : List ℕ) (pad : Pad) (a b : Bool) → a ≡ padNamed strings pad name → b ≡ padNamed strings pad name → a ≡ b

@@ -2,6 +2,8 @@
 // whose name equals the asked one, and so document 01's lookup in lent tables: a slice made of their I/O rows is searched. The check of
 // tables stands below it.
 use checking::check_tables;
+use checking::regions::bytes;
+use checking::regions::words;
 use checkmeta::rows::word_of;
 use ground::Place;
 use ground::Refusal;
@@ -151,8 +153,8 @@ pub fn lookup_pad(rows: &[u32], strings: &[u8], bits: &[u8], name: &[u8]) -> Fou
         Checked::Refused(g) => Found::Refused(g),
         Checked::Good => {
             found_in(
-                &rows[9219..9411],
-                &strings[0..16384],
+                words(rows, 9219, 192),
+                bytes(strings, 0, 16384),
                 word_of(rows, 1),
                 name,
             )

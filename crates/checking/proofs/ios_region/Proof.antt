@@ -1,0 +1,19 @@
+use Rattle.checking.proofs.Top.{ios-cut}
+use borrow.Author.Needs.{needs}
+use Rattle.checking.proofs.ios_region.Statement.{statement}
+use Rattle.checking.proofs.ios_region.Tie as tie
+
+words-requires : tie.Need-words-requires
+words-requires c κs = search needs
+
+word-of-requires : tie.Need-word-of-requires
+word-of-requires c κs = search needs
+
+ios-part-requires : tie.Need-ios-part-requires
+ios-part-requires c κs = search needs
+
+returns : tie.Need-returns
+returns c = let a = c .before .before .before .before .before .args in (ios-cut (a .rows .now) (a .strings .now) _ _ (a .s) _ (c .before .before .words .ensures .0) (c .before .word-of .ensures .0) (c .ios-part .ensures .0), c .ios-part .ensures .1)
+
+pub ios-region-spec : {M : Type 1} → statement M
+ios-region-spec = tie.close (tie.spec words-requires word-of-requires ios-part-requires returns)
