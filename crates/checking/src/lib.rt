@@ -5,7 +5,6 @@ mod blank;
 pub mod ios;
 pub mod names;
 pub mod parts;
-pub mod regions;
 
 use crate::blank::no_bytes;
 use crate::ios::Upto;
@@ -13,13 +12,19 @@ use crate::names::io_named;
 use crate::parts::cells_part;
 use crate::parts::ios_part;
 use crate::parts::metas_part;
-use crate::regions::bytes;
-use crate::regions::words;
 use checkmeta::rows::word_of;
 use ground::Place;
 use ground::Refusal;
 use netlist::Checked;
 use netlist::Found;
+use regions::attr_trits_of;
+use regions::cells_of;
+use regions::ios_of;
+use regions::members_of;
+use regions::metas_of;
+use regions::run_trits_of;
+use regions::runs_of;
+use regions::strings_of;
 ghost use mathlib.Core.Path.{_≡_};
 ghost use Prim.Native.Nat.{_≤_};
 ghost use lib.ListN.{length};
@@ -44,9 +49,9 @@ fn metas_region(rows: &[u32], bits: &[u8]) -> Upto
     ensures { λ r. ⌜ (r ≡ metasUpto (now (rows .entry)) (now (bits .entry))) × (uptoOf r ≤ 16384) ⌝ }
 {
     metas_part(
-        words(rows, 3, 8192),
-        words(rows, 8195, 1024),
-        bytes(bits, 0, 131072),
+        metas_of(rows),
+        members_of(rows),
+        attr_trits_of(bits),
         word_of(rows, 0),
     )
 }
@@ -56,7 +61,7 @@ fn ios_region(rows: &[u32], strings: &[u8], s: usize) -> Upto
     requires { ⌜ (26307 ≤ length (now rows)) × (length (now strings) ≡ 16384) × (s ≤ 16384) ⌝ }
     ensures { λ r. ⌜ (r ≡ iosUpto (now (rows .entry)) (now (strings .entry)) s) × (uptoOf r ≤ 16384) ⌝ }
 {
-    ios_part(words(rows, 9219, 192), strings, word_of(rows, 1), s)
+    ios_part(ios_of(rows), strings, word_of(rows, 1), s)
 }
 
 // The cells, whose names begin at s.
@@ -65,9 +70,9 @@ fn cells_region(rows: &[u32], strings: &[u8], bits: &[u8], s: usize) -> Upto
     ensures { λ r. ⌜ r ≡ cellsUpto (now (rows .entry)) (now (strings .entry)) (now (bits .entry)) s ⌝ }
 {
     cells_part(
-        words(rows, 9411, 4608),
-        words(rows, 14019, 12288),
-        bytes(bits, 131072, 262656),
+        cells_of(rows),
+        runs_of(rows),
+        run_trits_of(bits),
         strings,
         word_of(rows, 2),
         word_of(rows, 0),
@@ -80,7 +85,7 @@ fn tables_good(rows: &[u32], strings: &[u8], bits: &[u8]) -> bool
     requires { ⌜ (26307 ≤ length (now rows)) × (16384 ≤ length (now strings)) × (393728 ≤ length (now bits)) ⌝ }
     ensures { λ r. ⌜ r ≡ good (tablesIn (now (rows .entry)) (now (strings .entry)) (now (bits .entry))) ⌝ }
 {
-    let text = bytes(strings, 0, 16384);
+    let text = strings_of(strings);
     match metas_region(rows, bits) {
         Upto::Wrong => false,
         Upto::At(s) => match ios_region(rows, text, s) {
@@ -133,13 +138,6 @@ pub fn lookup_io(rows: &[u32], strings: &[u8], bits: &[u8], name: &[u8]) -> Foun
 {
     match check_tables(rows, strings, bits) {
         Checked::Refused(g) => Found::Refused(g),
-        Checked::Good => {
-            find_io(
-                words(rows, 9219, 192),
-                bytes(strings, 0, 16384),
-                word_of(rows, 1),
-                name,
-            )
-        }
+        Checked::Good => { find_io(ios_of(rows), strings_of(strings), word_of(rows, 1), name) }
     }
 }

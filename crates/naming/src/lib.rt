@@ -3,14 +3,14 @@
 mod names;
 
 use checking::check_tables;
-use checking::regions::bytes;
-use checking::regions::words;
 use ground::Place;
 use ground::Refusal;
 use names::count_name;
 use names::is_ident;
 use names::put_name;
 use netlist::Checked;
+use regions::metas_of;
+use regions::strings_of;
 ghost use mathlib.Core.Path.{_≡_};
 ghost use Prim.Native.Nat.{_+_};
 ghost use Rattle.ground.specs.Refusals.{at, refusal};
@@ -70,8 +70,8 @@ pub fn full_name(rows: &[u32], strings: &[u8], bits: &[u8], row: usize, room: &m
     match check_tables(rows, strings, bits) {
         Checked::Refused(g) => Named::Refused(g),
         Checked::Good => {
-            let metas = words(rows, 3, 8192);
-            let text = bytes(strings, 0, 16384);
+            let metas = metas_of(rows);
+            let text = strings_of(strings);
             name_in(room, metas, text, rows[0], row)
         }
     }

@@ -2,13 +2,13 @@
 // whose name equals the asked one, and so document 01's lookup in lent tables: a slice made of their I/O rows is searched. The check of
 // tables stands below it.
 use checking::check_tables;
-use checking::regions::bytes;
-use checking::regions::words;
 use checkmeta::rows::word_of;
 use ground::Place;
 use ground::Refusal;
 use netlist::Checked;
 use netlist::Found;
+use regions::ios_of;
+use regions::strings_of;
 ghost use mathlib.Core.Path.{_≡_};
 ghost use Prim.Native.Nat.{ℕ, _+_, _*_, _≤_, _<_};
 ghost use lib.ListN.{length, drop};
@@ -151,13 +151,6 @@ pub fn lookup_pad(rows: &[u32], strings: &[u8], bits: &[u8], name: &[u8]) -> Fou
 {
     match check_tables(rows, strings, bits) {
         Checked::Refused(g) => Found::Refused(g),
-        Checked::Good => {
-            found_in(
-                words(rows, 9219, 192),
-                bytes(strings, 0, 16384),
-                word_of(rows, 1),
-                name,
-            )
-        }
+        Checked::Good => { found_in(ios_of(rows), strings_of(strings), word_of(rows, 1), name) }
     }
 }

@@ -6,6 +6,7 @@ use native.Mathlib.Omega.{arith}
 use lib.ListN.{length, take, drop, length-drop}
 use lib.Seq.{take-all}
 use Rattle.ground.specs.Regions.{part}
+use Rattle.ground.proofs.Regions.{part-length}
 
 drop-none : (s : List ℕ) (k : ℕ) → length s ≤ k → drop k s ≡ []
 drop-none [] zero h = refl
@@ -34,3 +35,7 @@ module _ (s : List ℕ) (from size : ℕ) where
   pub part-whole : take (from + size - from) (drop from s) ≡ part from size s
   unfolding part
   part-whole = let e : from + size - from ≡ size = omega arith in ap (λ (n : ℕ). take n (drop from s)) e
+
+-- a part that lies in the slice has its full size
+pub region-length : (at n : ℕ) (t : List ℕ) {r : List ℕ} → r ≡ part at n t → at + n ≤ length t → length r ≡ n
+region-length at n t e h = rw e (part-length at n t h)

@@ -15,17 +15,17 @@ enum-known-g c = search needs
 enum-told : tie.Need-enum-told
 enum-told c = search needs
 
-words-requires : tie.Need-words-requires
-words-requires c κs = let a = c .before .before .before .before .before .before .before .args in let k = checked-good (a .rows .now) (a .strings .now) (a .bits .now) (sym (c .before .before .check-tables .ensures) ∙ c .enum-told .given .1) .0 in omega (arith, k .rows-long)
+metas-of-requires : tie.Need-metas-of-requires
+metas-of-requires c κs = search needs
 
-bytes-requires : tie.Need-bytes-requires
-bytes-requires c κs = let a = c .before .before .before .before .before .before .before .before .args in let k = checked-good (a .rows .now) (a .strings .now) (a .bits .now) (sym (c .before .before .before .check-tables .ensures) ∙ c .before .enum-told .given .1) .0 in omega (arith, k .strings-long)
+strings-of-requires : tie.Need-strings-of-requires
+strings-of-requires c κs = search needs
 
 shared-slice-read-name-in : tie.Need-shared-slice-read-name-in
 shared-slice-read-name-in c = let a = c .before .before .before .before .before .before .before .before .before .before .before .args in let k = checked-good (a .rows .now) (a .strings .now) (a .bits .now) (sym (c .before .before .before .before .before .before .check-tables .ensures) ∙ c .before .before .before .before .enum-told .given .1) .0 in omega (arith, k .rows-long)
 
 name-in-requires : tie.Need-name-in-requires
-name-in-requires c κs = let a = c .before .before .before .before .before .before .before .before .before .before .before .args in cut-rising (a .rows .now) (a .strings .now) (a .bits .now) _ (c .before .before .before .words .ensures .0) (sym (c .before .before .before .before .before .before .check-tables .ensures) ∙ c .before .before .before .before .enum-told .given .1)
+name-in-requires c κs = let a = c .before .before .before .before .before .before .before .before .before .before .before .args in cut-rising (a .rows .now) (a .strings .now) (a .bits .now) _ (c .before .before .before .metas-of .ensures) (sym (c .before .before .before .before .before .before .check-tables .ensures) ∙ c .before .before .before .before .enum-told .given .1)
 
 returns : tie.Need-returns
 returns c = let a = c .before .before .before .before .before .before .before .before .args in not-named (a .rows .now) (a .strings .now) (a .bits .now) (a .row) (a .room .now) _ (sym (c .before .before .before .check-tables .ensures) ∙ c .before .g .given .1)
@@ -34,7 +34,7 @@ same-length : tie.Need-same-length
 same-length c = search needs
 
 returns-2 : tie.Need-returns-2
-returns-2 c = let a = c .before .before .before .before .before .before .before .before .before .before .before .before .before .before .args in is-named (a .rows .now) (a .strings .now) (a .bits .now) _ (c .before .before .before .before .before .before .words .ensures .0) (a .row) (a .room .now) _ _ (c .before .before .before .before .before .bytes .ensures .0) (sym (c .before .before .before .before .before .before .before .before .before .check-tables .ensures) ∙ c .before .before .before .before .before .before .before .enum-told .given .1) (c .before .before .name-in .ensures)
+returns-2 c = let a = c .before .before .before .before .before .before .before .before .before .before .before .before .before .before .args in is-named (a .rows .now) (a .strings .now) (a .bits .now) _ (c .before .before .before .before .before .before .metas-of .ensures) (a .row) (a .room .now) _ _ (c .before .before .before .before .before .strings-of .ensures) (sym (c .before .before .before .before .before .before .before .before .before .check-tables .ensures) ∙ c .before .before .before .before .before .before .before .enum-told .given .1) (c .before .before .name-in .ensures)
 
 pub full-name-spec : {M : Type 1} → statement M
 full-name-spec =
@@ -43,8 +43,8 @@ full-name-spec =
     check-tables-requires
     enum-known-g
     enum-told
-    words-requires
-    bytes-requires
+    metas-of-requires
+    strings-of-requires
     shared-slice-read-name-in
     name-in-requires
     returns
