@@ -1,30 +1,41 @@
 -- The outcome of a printing: each way out, over plain lists.
-use Prim.Native.Nat.{ℕ, _+_, _≤_, _<_, min}
-use mathlib.Core.Path.{_≡_, refl, sym, ap, subst, _∙_}
+use Prim.Native.Nat.{ℕ, _≤_, _<_, min}
+use mathlib.Core.Path.{_≡_, ap, _∙_}
 use mathlib.Core.Bool.{true}
 use mathlib.Core.List.{List, []}
 use native.Mathlib.Omega.{arith}
-use lib.ListN.{length, take, drop, getD, length-take, length-drop}
+use lib.ListN.{length, length-take, length-drop}
 use borrow.Author.Tests.{lt-ltb, le-ltb}
 use Rattle.ground.specs.Refusals.{at, refusal}
 use Rattle.ground.specs.Regions.{part, over}
 use Rattle.ground.specs.declared.Refusal.{Refusal}
 use Rattle.ground.proofs.Outcome.{any-two}
 use Rattle.netlist.specs.Netlist.{Netlist}
-use Rattle.netlist.specs.Tables.{Tables, tablesIn}
-use Rattle.netlist.specs.View.{view}
+use Rattle.netlist.specs.Tables.{tablesIn}
 use Rattle.netlist.specs.Good.{good, checkOf, netlistIn}
 use Rattle.netlist.specs.declared.Checked.the-variants as checked
 use Rattle.netlist.proofs.Laying.{Long}
-use Rattle.checking.proofs.Top.{cuts}
 use Rattle.writing.specs.Stands.{most, Wrote}
-use Rattle.writing.proofs.Stands.{same-text, standing}
+use Rattle.writing.proofs.Stands.{standing}
 use Rattle.lines.specs.Lines.{canonical}
-use Rattle.printing.specs.Whole.{canonicalThen, Sound}
+use Rattle.printing.specs.Whole.{canonicalThen, Ready}
 use Rattle.printing.specs.Outcome.{Outcome, made, written, printOf}
 use Rattle.printing.specs.declared.Printed.the-variants as printed
 use Rattle.printing.proofs.Whole.{nothing-more, counts}
 use Rattle.printing.proofs.Sound.{good-sound}
+
+long-in : (rows strings bits : List ℕ) → 26307 ≤ length rows → 16384 ≤ length strings → 393728 ≤ length bits → Long (tablesIn rows strings bits)
+unfolding tablesIn part
+long-in rows strings bits r s t = record {
+  metas = simp (length-take, length-drop) (omega arith);
+  members = simp (length-take, length-drop) (omega arith);
+  ios = simp (length-take, length-drop) (omega arith);
+  cells = simp (length-take, length-drop) (omega arith);
+  runs = simp (length-take, length-drop) (omega arith);
+  strings = simp length-take (omega arith);
+  attrBits = simp length-take (omega arith);
+  runBits = simp (length-take, length-drop) (omega arith);
+}
 
 -- 24: the room is shorter than the text, or than its count, which a text may exceed
 pub room-short : (text room : List ℕ) (n : ℕ) → n ≡ min (length text) most → length room < n → made (printed.Refused (refusal 24 (at 0))) room ≡ written text room
@@ -45,34 +56,14 @@ room-enough N {l} {l′} {n} {r} f e h b p =
     let z : l′ ≡ over (length text) text l = standing p q ∙ ap (λ (x : List ℕ). over (length x) x l) m in
     rw (le-ltb (length l) (length text) k) (λ i. made (printed.Length (g i)) (z i))
 
--- TABLES THAT WERE CHECKED, cut into their regions
-module _ (rows strings bits : List ℕ) where
-  abbrev tables : ℕ → Tables
-  tables n = cuts rows strings bits (getD rows 0 0) (getD rows 1 0) n
-
-  module _ (r : 26307 ≤ length rows) (s : 16384 ≤ length strings) (t : 393728 ≤ length bits) where
-    long-in : Long (tablesIn rows strings bits)
-    unfolding tablesIn part
-    long-in = record {
-      metas = simp (length-take, length-drop) (omega arith);
-      members = simp (length-take, length-drop) (omega arith);
-      ios = simp (length-take, length-drop) (omega arith);
-      cells = simp (length-take, length-drop) (omega arith);
-      runs = simp (length-take, length-drop) (omega arith);
-      strings = simp length-take (omega arith);
-      attrBits = simp length-take (omega arith);
-      runBits = simp (length-take, length-drop) (omega arith);
-    }
-
-    pub cut-sound : good (tablesIn rows strings bits) ≡ true → (n : ℕ) → n ≡ getD rows 2 0 → Sound (tables n)
-    unfolding tablesIn part
-    cut-sound g n q =
-        let k : Sound (tables (getD rows 2 0)) = good-sound (tablesIn rows strings bits) long-in g in
-        subst (λ (u : ℕ). Sound (tables u)) (sym q) k
-
-  pub cut-wrote : (n : ℕ) → n ≡ getD rows 2 0 → {l l′ : List ℕ} {r : ℕ} → Wrote l 0 (canonicalThen (view (tables n))) l′ r → Wrote l 0 (canonicalThen (netlistIn rows strings bits)) l′ r
-  unfolding tablesIn part
-  cut-wrote n q p = same-text p (λ k. ap (λ (u : ℕ). canonicalThen (view (tables u)) k) q)
+-- TABLES THAT WERE CHECKED are long enough and sound
+pub good-ready : {rows strings bits : List ℕ} → (26307 ≤ length rows) × (16384 ≤ length strings) × (393728 ≤ length bits) × (good (tablesIn rows strings bits) ≡ true) → Ready rows strings bits
+good-ready {rows} {strings} {bits} p = record {
+  rows-long = p .0;
+  strings-long = p .1;
+  bits-long = p .2;
+  sound = good-sound (tablesIn rows strings bits) (long-in rows strings bits (p .0) (p .1) (p .2)) (p .3);
+}
 
 -- ANY LENT TABLES: 1 and 15 as the check says, else what is written
 module _ (rows strings bits room : List ℕ) where

@@ -1,18 +1,19 @@
-// The whole text of good tables.
+// The whole text of good tables. Each writer cuts the regions that it needs out of the lent tables by itself.
 ghost use mathlib.Core.Path.{_≡_};
-ghost use mathlib.Core.Bool.{Bool, true, _&&_};
-ghost use mathlib.Core.List.{List};
-ghost use Prim.Native.Nat.{ℕ, _≤_, min};
+ghost use mathlib.Core.Bool.{true, _&&_};
+ghost use mathlib.Core.List.{[]};
+ghost use Prim.Native.Nat.{_≤_, min};
 ghost use lib.Dec.{eqb};
-ghost use lib.ListN.{length};
+ghost use lib.ListN.{length, getD};
 ghost use Rattle.netlist.specs.Tables.{tablesIn};
-ghost use Rattle.netlist.specs.View.{view};
 ghost use Rattle.netlist.specs.Good.{good, netlistIn};
-ghost use Rattle.checking.specs.Parts.{regions};
 ghost use Rattle.writing.specs.Stands.{most, Wrote};
-ghost use Rattle.numbering.specs.Numbers.{rowWidths, numbersBy};
-ghost use Rattle.lines.specs.Lines.{lines, canonical};
-ghost use Rattle.printing.specs.Whole.{canonicalThen, Sound};
+ghost use Rattle.numbering.specs.Numbers.{numbersBy};
+ghost use Rattle.celllines.specs.CellLines.{cellLines};
+ghost use Rattle.lines.specs.Lines.{metaLines, ioLines, lines, canonical};
+ghost use Rattle.printing.specs.Whole.{canonicalThen, cellWidths, Ready};
+use crate::parts::bytes;
+use crate::parts::words;
 use celllines::put_cells;
 use checkmeta::rows::word_of;
 use lines::ios::put_ios;
@@ -21,193 +22,129 @@ use numbering::number_cells;
 use numbering::take_widths;
 use writing::room::put;
 
-// The lines of metadata, I/O and cells, under the numbers and widths of all cells.
-fn put_lines(
+// The lines of metadata, from the start of the room on.
+fn put_meta_lines(room: &mut [u8], rows: &[u32], strings: &[u8], bits: &[u8]) -> usize
+    requires { ⌜ Ready (now rows) (now strings) (now bits) ⌝ }
+    ensures { λ r. ⌜ Wrote (now (room .entry)) 0 (metaLines 0 (netlistIn (now (rows .entry)) (now (strings .entry)) (now (bits .entry)) .metas)) (now (room .exit)) r ⌝ }
+{
+    let metas = words(rows, 3, 8192);
+    let members = words(rows, 8195, 1024);
+    let strings = bytes(strings, 0, 16384);
+    let trits = bytes(bits, 0, 131072);
+    put_metas(room, 0, metas, rows[0], strings, members, trits)
+}
+
+// The lines of I/O, whose rows name no trits.
+fn put_io_lines(room: &mut [u8], n: usize, rows: &[u32], strings: &[u8]) -> usize
+    requires { ⌜ (26307 ≤ length (now rows)) × (16384 ≤ length (now strings)) × (getD (now rows) 1 0 ≤ 64) ⌝ }
+    ensures { λ r. ⌜ Wrote (now (room .entry)) n (ioLines (netlistIn (now (rows .entry)) (now (strings .entry)) [] .ios)) (now (room .exit)) r ⌝ }
+{
+    let ios = words(rows, 9219, 192);
+    let strings = bytes(strings, 0, 16384);
+    put_ios(room, n, ios, rows[1], strings)
+}
+
+// The lines of cells, under the numbers and widths of all cells.
+fn put_cell_lines(
     room: &mut [u8],
-    metas: &[u32],
-    members: &[u32],
-    ios: &[u32],
-    cells: &[u32],
-    runs: &[u32],
+    n: usize,
+    rows: &[u32],
     strings: &[u8],
-    attrs: &[u8],
-    trits: &[u8],
-    nm: u32,
-    ni: u32,
+    bits: &[u8],
     numbers: &[u32],
     widths: &[u32],
 ) -> usize
-    requires { ⌜ Sound (regions nm ni (length (now widths)) (now metas) (now members) (now ios) (now cells) (now runs) (now strings) (now attrs) (now trits)) × (now widths ≡ rowWidths (length (now widths)) (now cells)) × (now numbers ≡ numbersBy 0 (now widths)) ⌝ }
-    ensures { λ r. ⌜ Wrote (now (room .entry)) 0 (lines (view (regions nm ni (length (now (widths .entry))) (now (metas .entry)) (now (members .entry)) (now (ios .entry)) (now (cells .entry)) (now (runs .entry)) (now (strings .entry)) (now (attrs .entry)) (now (trits .entry))))) (now (room .exit)) r ⌝ }
+    requires { ⌜ Ready (now rows) (now strings) (now bits) × (length (now numbers) ≡ getD (now rows) 2 0) ⌝ }
+    ensures { λ r. ⌜ Wrote (now (room .entry)) n (cellLines (now (numbers .entry)) (now (widths .entry)) (now (numbers .entry)) (netlistIn (now (rows .entry)) (now (strings .entry)) (now (bits .entry)) .cells)) (now (room .exit)) r ⌝ }
 {
-    let n = put_metas(room, 0, metas, nm, strings, members, attrs);
-    let n = put_ios(room, n, ios, ni, strings);
+    let cells = words(rows, 9411, 4608);
+    let runs = words(rows, 14019, 12288);
+    let strings = bytes(strings, 0, 16384);
+    let trits = bytes(bits, 131072, 262656);
     put_cells(room, n, numbers, widths, cells, strings, runs, trits)
 }
 
-fn is_bare(nm: u32, ni: u32, nc: usize) -> bool
-    ensures { λ r. ⌜ r ≡ (eqb nm 0 && (eqb ni 0 && eqb nc 0)) ⌝ }
+// The lines of metadata, I/O and cells.
+fn put_lines(
+    room: &mut [u8],
+    rows: &[u32],
+    strings: &[u8],
+    bits: &[u8],
+    numbers: &[u32],
+    widths: &[u32],
+) -> usize
+    requires { ⌜ Ready (now rows) (now strings) (now bits) × (now widths ≡ cellWidths (now rows)) × (now numbers ≡ numbersBy 0 (now widths)) ⌝ }
+    ensures { λ r. ⌜ Wrote (now (room .entry)) 0 (lines (netlistIn (now (rows .entry)) (now (strings .entry)) (now (bits .entry)))) (now (room .exit)) r ⌝ }
 {
-    if nm != 0 {
+    let n = put_meta_lines(room, rows, strings, bits);
+    let n = put_io_lines(room, n, rows, strings);
+    put_cell_lines(room, n, rows, strings, bits, numbers, widths)
+}
+
+// No row of metadata, I/O or cells.
+fn is_bare(rows: &[u32]) -> bool
+    requires { ⌜ 3 ≤ length (now rows) ⌝ }
+    ensures { λ r. ⌜ r ≡ (eqb (getD (now (rows .entry)) 0 0) 0 && (eqb (getD (now (rows .entry)) 1 0) 0 && eqb (getD (now (rows .entry)) 2 0) 0)) ⌝ }
+{
+    if rows[0] != 0 {
         return false;
     }
-    if ni != 0 {
+    if rows[1] != 0 {
         return false;
     }
-    nc == 0
+    rows[2] == 0
 }
 
 // No declarations: one LF.
 fn put_text(
     room: &mut [u8],
-    metas: &[u32],
-    members: &[u32],
-    ios: &[u32],
-    cells: &[u32],
-    runs: &[u32],
+    rows: &[u32],
     strings: &[u8],
-    attrs: &[u8],
-    trits: &[u8],
-    nm: u32,
-    ni: u32,
+    bits: &[u8],
     numbers: &[u32],
     widths: &[u32],
 ) -> usize
-    requires { ⌜ Sound (regions nm ni (length (now widths)) (now metas) (now members) (now ios) (now cells) (now runs) (now strings) (now attrs) (now trits)) × (now widths ≡ rowWidths (length (now widths)) (now cells)) × (now numbers ≡ numbersBy 0 (now widths)) ⌝ }
-    ensures { λ r. ⌜ Wrote (now (room .entry)) 0 (canonicalThen (view (regions nm ni (length (now (widths .entry))) (now (metas .entry)) (now (members .entry)) (now (ios .entry)) (now (cells .entry)) (now (runs .entry)) (now (strings .entry)) (now (attrs .entry)) (now (trits .entry))))) (now (room .exit)) r ⌝ }
+    requires { ⌜ Ready (now rows) (now strings) (now bits) × (now widths ≡ cellWidths (now rows)) × (now numbers ≡ numbersBy 0 (now widths)) ⌝ }
+    ensures { λ r. ⌜ Wrote (now (room .entry)) 0 (canonicalThen (netlistIn (now (rows .entry)) (now (strings .entry)) (now (bits .entry)))) (now (room .exit)) r ⌝ }
 {
-    if is_bare(nm, ni, widths.len()) {
+    if is_bare(rows) {
         return put(room, 0, 10);
     }
-    put_lines(
-        room,
-        metas,
-        members,
-        ios,
-        cells,
-        runs,
-        strings,
-        attrs,
-        trits,
-        nm,
-        ni,
-        numbers,
-        widths,
-    )
+    put_lines(room, rows, strings, bits, numbers, widths)
 }
 
 // The text, of the widths of all cells, which give their numbers.
 fn put_numbered(
     room: &mut [u8],
-    metas: &[u32],
-    members: &[u32],
-    ios: &[u32],
-    cells: &[u32],
-    runs: &[u32],
+    rows: &[u32],
     strings: &[u8],
-    attrs: &[u8],
-    trits: &[u8],
-    nm: u32,
-    ni: u32,
+    bits: &[u8],
     widths: &[u32],
     numbers: &mut [u32],
 ) -> usize
-    requires { ⌜ Sound (regions nm ni (length (now widths)) (now metas) (now members) (now ios) (now cells) (now runs) (now strings) (now attrs) (now trits)) × (now widths ≡ rowWidths (length (now widths)) (now cells)) × (length (now numbers) ≡ 512) ⌝ }
-    ensures { λ r. ⌜ Wrote (now (room .entry)) 0 (canonicalThen (view (regions nm ni (length (now (widths .entry))) (now (metas .entry)) (now (members .entry)) (now (ios .entry)) (now (cells .entry)) (now (runs .entry)) (now (strings .entry)) (now (attrs .entry)) (now (trits .entry))))) (now (room .exit)) r ⌝ }
+    requires { ⌜ Ready (now rows) (now strings) (now bits) × (now widths ≡ cellWidths (now rows)) × (length (now numbers) ≡ 512) ⌝ }
+    ensures { λ r. ⌜ Wrote (now (room .entry)) 0 (canonicalThen (netlistIn (now (rows .entry)) (now (strings .entry)) (now (bits .entry)))) (now (room .exit)) r ⌝ }
 {
     let n = widths.len();
     number_cells(widths, &mut numbers[0..n]);
-    put_text(
-        room,
-        metas,
-        members,
-        ios,
-        cells,
-        runs,
-        strings,
-        attrs,
-        trits,
-        nm,
-        ni,
-        &numbers[0..n],
-        widths,
-    )
+    put_text(room, rows, strings, bits, &numbers[0..n], widths)
 }
 
 // The text, in work space for the widths and numbers of all cells.
 fn put_measured(
     room: &mut [u8],
-    metas: &[u32],
-    members: &[u32],
-    ios: &[u32],
-    cells: &[u32],
-    runs: &[u32],
+    rows: &[u32],
     strings: &[u8],
-    attrs: &[u8],
-    trits: &[u8],
-    nm: u32,
-    ni: u32,
-    nc: usize,
+    bits: &[u8],
     widths: &mut [u32],
     numbers: &mut [u32],
 ) -> usize
-    requires { ⌜ Sound (regions nm ni nc (now metas) (now members) (now ios) (now cells) (now runs) (now strings) (now attrs) (now trits)) × (length (now widths) ≡ 512) × (length (now numbers) ≡ 512) ⌝ }
-    ensures { λ r. ⌜ Wrote (now (room .entry)) 0 (canonicalThen (view (regions nm ni nc (now (metas .entry)) (now (members .entry)) (now (ios .entry)) (now (cells .entry)) (now (runs .entry)) (now (strings .entry)) (now (attrs .entry)) (now (trits .entry))))) (now (room .exit)) r ⌝ }
+    requires { ⌜ Ready (now rows) (now strings) (now bits) × (length (now widths) ≡ 512) × (length (now numbers) ≡ 512) ⌝ }
+    ensures { λ r. ⌜ Wrote (now (room .entry)) 0 (canonicalThen (netlistIn (now (rows .entry)) (now (strings .entry)) (now (bits .entry)))) (now (room .exit)) r ⌝ }
 {
-    take_widths(cells, &mut widths[0..nc]);
-    put_numbered(
-        room,
-        metas,
-        members,
-        ios,
-        cells,
-        runs,
-        strings,
-        attrs,
-        trits,
-        nm,
-        ni,
-        &widths[0..nc],
-        numbers,
-    )
-}
-
-// The text of tables in their regions.
-fn put_regions(
-    room: &mut [u8],
-    metas: &[u32],
-    members: &[u32],
-    ios: &[u32],
-    cells: &[u32],
-    runs: &[u32],
-    strings: &[u8],
-    attrs: &[u8],
-    trits: &[u8],
-    nm: u32,
-    ni: u32,
-    nc: usize,
-) -> usize
-    requires { ⌜ Sound (regions nm ni nc (now metas) (now members) (now ios) (now cells) (now runs) (now strings) (now attrs) (now trits)) ⌝ }
-    ensures { λ r. ⌜ Wrote (now (room .entry)) 0 (canonicalThen (view (regions nm ni nc (now (metas .entry)) (now (members .entry)) (now (ios .entry)) (now (cells .entry)) (now (runs .entry)) (now (strings .entry)) (now (attrs .entry)) (now (trits .entry))))) (now (room .exit)) r ⌝ }
-{
-    let mut widths = [0u32; 512];
-    let mut numbers = [0u32; 512];
-    put_measured(
-        room,
-        metas,
-        members,
-        ios,
-        cells,
-        runs,
-        strings,
-        attrs,
-        trits,
-        nm,
-        ni,
-        nc,
-        &mut widths,
-        &mut numbers,
-    )
+    let n = word_of(rows, 2);
+    take_widths(words(rows, 9411, 4608), &mut widths[0..n]);
+    put_numbered(room, rows, strings, bits, &widths[0..n], numbers)
 }
 
 // The text of good tables into lent room, as far as it has place.
@@ -215,20 +152,9 @@ pub(crate) fn put_good(room: &mut [u8], rows: &[u32], strings: &[u8], bits: &[u8
     requires { ⌜ (26307 ≤ length (now rows)) × (16384 ≤ length (now strings)) × (393728 ≤ length (now bits)) × (good (tablesIn (now rows) (now strings) (now bits)) ≡ true) ⌝ }
     ensures { λ r. ⌜ Wrote (now (room .entry)) 0 (canonicalThen (netlistIn (now (rows .entry)) (now (strings .entry)) (now (bits .entry)))) (now (room .exit)) r ⌝ }
 {
-    put_regions(
-        room,
-        &rows[3..8195],
-        &rows[8195..9219],
-        &rows[9219..9411],
-        &rows[9411..14019],
-        &rows[14019..26307],
-        &strings[0..16384],
-        &bits[0..131072],
-        &bits[131072..393728],
-        rows[0],
-        rows[1],
-        word_of(rows, 2),
-    )
+    let mut widths = [0u32; 512];
+    let mut numbers = [0u32; 512];
+    put_measured(room, rows, strings, bits, &mut widths, &mut numbers)
 }
 
 // The length of the text of good tables, which is counted where there is no room for it.

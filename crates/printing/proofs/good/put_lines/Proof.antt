@@ -1,23 +1,29 @@
-use Rattle.printing.proofs.Whole.{numbers-few, joined-lines}
+use Rattle.printing.proofs.Ready.{few-ios, numbers-many, lines-wrote}
 use borrow.Author.Needs.{needs}
 use Rattle.printing.proofs.good.put_lines.Statement.{statement}
 use Rattle.printing.proofs.good.put_lines.Tie as tie
 
-put-metas-requires : tie.Need-put-metas-requires
-put-metas-requires c κs = search needs
+put-meta-lines-requires : tie.Need-put-meta-lines-requires
+put-meta-lines-requires c κs = search needs
 
-put-ios-requires : tie.Need-put-ios-requires
-put-ios-requires c κs = search needs
+put-io-lines-requires : tie.Need-put-io-lines-requires
+put-io-lines-requires c κs = let p = c .before .before .before .before .before .before .before .before .before .before .before .pre in (p .0 .rows-long, p .0 .strings-long, few-ios (p .0))
 
-put-cells-requires : tie.Need-put-cells-requires
-put-cells-requires c κs = let p = c .before .before .before .before .before .before .before .before .before .before .before .before .before .before .before .before .before .before .before .before .pre in (p .0 .cells, numbers-few (p .0) (p .1) (p .2), p .0 .runs, p .0 .trits .1)
+put-cell-lines-requires : tie.Need-put-cell-lines-requires
+put-cell-lines-requires c κs = let p = c .before .before .before .before .before .before .before .before .before .before .before .before .before .before .before .pre in (p .0, numbers-many (p .0) (p .1) (p .2))
 
 same-length : tie.Need-same-length
 same-length c = search needs
 
 returns : tie.Need-returns
-returns c = let p = c .before .before .before .before .before .before .before .before .before .before .before .before .before .before .before .before .before .before .before .before .before .before .before .pre in joined-lines (p .0) (p .1) (p .2) (c .before .before .before .before .before .before .before .before .before .before .put-metas .ensures) (c .before .before .before .before .before .before .put-ios .ensures) (c .before .before .put-cells .ensures)
+returns c = let p = c .before .before .before .before .before .before .before .before .before .before .before .before .before .before .before .before .before .before .pre in lines-wrote (p .0) (p .1) (p .2) (c .before .before .before .before .before .before .before .before .before .before .put-meta-lines .ensures) (c .before .before .before .before .before .before .put-io-lines .ensures) (c .before .before .put-cell-lines .ensures)
 
 pub put-lines-spec : {M : Type 1} → statement M
 put-lines-spec =
-    tie.close (tie.spec put-metas-requires put-ios-requires put-cells-requires same-length returns)
+    tie.close
+    (tie.spec
+    put-meta-lines-requires
+    put-io-lines-requires
+    put-cell-lines-requires
+    same-length
+    returns)

@@ -1,7 +1,14 @@
-use Rattle.printing.proofs.Whole.{measured, measured-text}
+use Rattle.printing.proofs.Ready.{few-cells, widths-asked, widths-again}
+use native.Mathlib.Omega.{arith}
 use borrow.Author.Needs.{needs}
 use Rattle.printing.proofs.good.put_measured.Statement.{statement}
 use Rattle.printing.proofs.good.put_measured.Tie as tie
+
+word-of-requires : tie.Need-word-of-requires
+word-of-requires c κs = search needs
+
+words-requires : tie.Need-words-requires
+words-requires c κs = search needs
 
 sub-take-widths : tie.Need-sub-take-widths
 sub-take-widths c = search needs
@@ -10,10 +17,10 @@ part-take-widths-start : tie.Need-part-take-widths-start
 part-take-widths-start c = search needs
 
 part-take-widths-end : tie.Need-part-take-widths-end
-part-take-widths-end c = search needs
+part-take-widths-end c = let p = c .before .before .before .before .before .before .before .before .pre in omega (arith, p .1, few-cells (p .0), c .before .word-of .ensures .0)
 
 take-widths-requires : tie.Need-take-widths-requires
-take-widths-requires c κs = search needs
+take-widths-requires c κs = let s = c .before .before .before .before .before .before .before .before .before in widths-asked (s .pre .0) (c .before .before .word-of .ensures .0) (c .before .words .ensures) (s .args .widths .now) (s .pre .1)
 
 sub-put-numbered : tie.Need-sub-put-numbered
 sub-put-numbered c = search needs
@@ -22,10 +29,10 @@ part-put-numbered-start : tie.Need-part-put-numbered-start
 part-put-numbered-start c = search needs
 
 part-put-numbered-end : tie.Need-part-put-numbered-end
-part-put-numbered-end c = search needs
+part-put-numbered-end c = let p = c .before .before .before .before .before .before .before .before .before .before .before .before .before .before .pre in omega (arith, p .1, few-cells (p .0), c .before .before .before .before .before .before .before .word-of .ensures .0)
 
 put-numbered-requires : tie.Need-put-numbered-requires
-put-numbered-requires c κs = let p = c .before .before .before .before .before .before .before .before .before .before .before .before .before .before .before .before .before .before .before .pre in let m = measured (p .0) (c .before .before .before .before .before .before .before .before .before .before .before .before .before .before .before .before .before .before .before .args .widths .now) _ _ (p .1) (c .before .before .before .before .before .before .take-widths .ensures) in (m .0, m .1, p .2)
+put-numbered-requires c κs = let s = c .before .before .before .before .before .before .before .before .before .before .before .before .before .before .before .before in (s .pre .0, widths-again (s .pre .0) (c .before .before .before .before .before .before .before .before .before .word-of .ensures .0) (c .before .before .before .before .before .before .before .before .words .ensures) (s .args .widths .now) (s .pre .1) _ _ (c .before .before .before .before .before .before .take-widths .ensures), s .pre .2)
 
 same-length : tie.Need-same-length
 same-length c = search needs
@@ -37,12 +44,14 @@ same-length-3 : tie.Need-same-length-3
 same-length-3 c = search needs
 
 returns : tie.Need-returns
-returns c = let p = c .before .before .before .before .before .before .before .before .before .before .before .before .before .before .before .before .before .before .before .before .before .before .before .before .pre in measured-text (p .0) (c .before .before .before .before .before .before .before .before .before .before .before .before .before .before .before .before .before .before .before .before .before .before .before .before .args .widths .now) _ _ (p .1) (c .before .before .before .before .before .before .before .before .before .before .before .take-widths .ensures) (c .before .before .before .before .put-numbered .ensures)
+returns c = search needs
 
 pub put-measured-spec : {M : Type 1} → statement M
 put-measured-spec =
     tie.close
     (tie.spec
+    word-of-requires
+    words-requires
     sub-take-widths
     part-take-widths-start
     part-take-widths-end

@@ -1,7 +1,6 @@
-use Rattle.printing.proofs.Whole.{front-length, numbers-again}
-use mathlib.Core.Path.{ap, _∙_}
-use Rattle.ground.specs.Lists.{every}
-use Rattle.numbering.specs.Numbers.{narrow}
+use Rattle.printing.proofs.Ready.{widths-few, all-narrow, numbers-again}
+use Rattle.printing.proofs.Whole.{front-length}
+use native.Mathlib.Omega.{arith}
 use borrow.Author.Needs.{needs}
 use Rattle.printing.proofs.good.put_numbered.Statement.{statement}
 use Rattle.printing.proofs.good.put_numbered.Tie as tie
@@ -13,10 +12,10 @@ part-number-cells-start : tie.Need-part-number-cells-start
 part-number-cells-start c = search needs
 
 part-number-cells-end : tie.Need-part-number-cells-end
-part-number-cells-end c = search needs
+part-number-cells-end c = let p = c .before .before .before .before .before .before .pre in omega (arith, p .2, widths-few (p .0) (p .1))
 
 number-cells-requires : tie.Need-number-cells-requires
-number-cells-requires c κs = let p = c .before .before .before .before .before .before .before .before .before .before .before .before .pre in (front-length (c .before .before .before .before .before .before .before .before .before .before .before .before .args .numbers .now) _ (p .2) (p .0 .few .2), p .0 .few .2, ap (every narrow) (p .1) ∙ p .0 .widths)
+number-cells-requires c κs = let s = c .before .before .before .before .before .before .before in let few = widths-few (s .pre .0) (s .pre .1) in (front-length (s .args .numbers .now) _ (s .pre .2) few, few, all-narrow (s .pre .0) (s .pre .1))
 
 sub-put-text : tie.Need-sub-put-text
 sub-put-text c = search needs
@@ -25,10 +24,10 @@ part-put-text-start : tie.Need-part-put-text-start
 part-put-text-start c = search needs
 
 part-put-text-end : tie.Need-part-put-text-end
-part-put-text-end c = search needs
+part-put-text-end c = let p = c .before .before .before .before .before .before .before .before .before .before .before .before .pre in omega (arith, p .2, widths-few (p .0) (p .1))
 
 put-text-requires : tie.Need-put-text-requires
-put-text-requires c κs = let p = c .before .before .before .before .before .before .before .before .before .before .before .before .before .before .before .before .before .before .pre in (p .0, p .1, numbers-again _ _ (c .before .before .before .before .before .before .before .before .before .before .before .before .before .before .before .before .before .before .args .widths .now) (c .before .before .before .before .before .number-cells .ensures))
+put-text-requires c κs = let s = c .before .before .before .before .before .before .before .before .before .before .before .before .before in (s .pre .0, s .pre .1, numbers-again _ _ (s .args .widths .now) (c .before .before .before .before .before .number-cells .ensures))
 
 same-length : tie.Need-same-length
 same-length c = search needs

@@ -1,4 +1,5 @@
 use Rattle.printing.proofs.Whole.{bare-text, full-text}
+use Rattle.netlist.specs.Tables.{tablesIn}
 use borrow.Author.Needs.{needs}
 use Rattle.printing.proofs.good.put_text.Statement.{statement}
 use Rattle.printing.proofs.good.put_text.Tie as tie
@@ -13,7 +14,8 @@ same-length : tie.Need-same-length
 same-length c = search needs
 
 returns : tie.Need-returns
-returns c = bare-text (c .before .before .before .before .before .before .before .before .before .before .before .before .before .before .before .before .before .pre .0) (c .before .before .before .before .before .is-bare .ensures) (c .before .before .before .before .if1 .taken) (c .before .before .put .ensures)
+unfolding tablesIn
+returns c = let a = c .before .before .before .before .before .before .before .before .before .before .before .before .args in bare-text (tablesIn (a .rows .now) (a .strings .now) (a .bits .now)) (c .before .before .before .before .before .is-bare .ensures) (c .before .before .before .before .if1 .taken) (c .before .before .put .ensures)
 
 put-lines-requires : tie.Need-put-lines-requires
 put-lines-requires c κs = search needs
@@ -22,7 +24,8 @@ same-length-2 : tie.Need-same-length-2
 same-length-2 c = search needs
 
 returns-2 : tie.Need-returns-2
-returns-2 c = full-text (c .before .before .before .before .before .before .before .before .before .before .before .before .before .before .before .before .before .pre .0) (c .before .before .before .before .before .is-bare .ensures) (c .before .before .before .before .if1 .left) (c .before .before .put-lines .ensures)
+unfolding tablesIn
+returns-2 c = let a = c .before .before .before .before .before .before .before .before .before .before .before .before .args in full-text (tablesIn (a .rows .now) (a .strings .now) (a .bits .now)) (c .before .before .before .before .before .is-bare .ensures) (c .before .before .before .before .if1 .left) (c .before .before .put-lines .ensures)
 
 pub put-text-spec : {M : Type 1} → statement M
 put-text-spec =
