@@ -12,14 +12,20 @@ ghost use Rattle.numbering.specs.Numbers.{numbersBy};
 ghost use Rattle.celllines.specs.CellLines.{cellLines};
 ghost use Rattle.lines.specs.Lines.{metaLines, ioLines, lines, canonical};
 ghost use Rattle.printing.specs.Whole.{canonicalThen, cellWidths, Ready};
-use crate::parts::bytes;
-use crate::parts::words;
 use celllines::put_cells;
 use checkmeta::rows::word_of;
 use lines::ios::put_ios;
 use lines::metas::put_metas;
 use numbering::number_cells;
 use numbering::take_widths;
+use regions::attr_trits_of;
+use regions::cells_of;
+use regions::ios_of;
+use regions::members_of;
+use regions::metas_of;
+use regions::run_trits_of;
+use regions::runs_of;
+use regions::strings_of;
 use writing::room::put;
 
 // The lines of metadata, from the start of the room on.
@@ -27,10 +33,10 @@ fn put_meta_lines(room: &mut [u8], rows: &[u32], strings: &[u8], bits: &[u8]) ->
     requires { ⌜ Ready (now rows) (now strings) (now bits) ⌝ }
     ensures { λ r. ⌜ Wrote (now (room .entry)) 0 (metaLines 0 (netlistIn (now (rows .entry)) (now (strings .entry)) (now (bits .entry)) .metas)) (now (room .exit)) r ⌝ }
 {
-    let metas = words(rows, 3, 8192);
-    let members = words(rows, 8195, 1024);
-    let strings = bytes(strings, 0, 16384);
-    let trits = bytes(bits, 0, 131072);
+    let metas = metas_of(rows);
+    let members = members_of(rows);
+    let strings = strings_of(strings);
+    let trits = attr_trits_of(bits);
     put_metas(room, 0, metas, rows[0], strings, members, trits)
 }
 
@@ -39,8 +45,8 @@ fn put_io_lines(room: &mut [u8], n: usize, rows: &[u32], strings: &[u8]) -> usiz
     requires { ⌜ (26307 ≤ length (now rows)) × (16384 ≤ length (now strings)) × (getD (now rows) 1 0 ≤ 64) ⌝ }
     ensures { λ r. ⌜ Wrote (now (room .entry)) n (ioLines (netlistIn (now (rows .entry)) (now (strings .entry)) [] .ios)) (now (room .exit)) r ⌝ }
 {
-    let ios = words(rows, 9219, 192);
-    let strings = bytes(strings, 0, 16384);
+    let ios = ios_of(rows);
+    let strings = strings_of(strings);
     put_ios(room, n, ios, rows[1], strings)
 }
 
@@ -57,10 +63,10 @@ fn put_cell_lines(
     requires { ⌜ Ready (now rows) (now strings) (now bits) × (length (now numbers) ≡ getD (now rows) 2 0) ⌝ }
     ensures { λ r. ⌜ Wrote (now (room .entry)) n (cellLines (now (numbers .entry)) (now (widths .entry)) (now (numbers .entry)) (netlistIn (now (rows .entry)) (now (strings .entry)) (now (bits .entry)) .cells)) (now (room .exit)) r ⌝ }
 {
-    let cells = words(rows, 9411, 4608);
-    let runs = words(rows, 14019, 12288);
-    let strings = bytes(strings, 0, 16384);
-    let trits = bytes(bits, 131072, 262656);
+    let cells = cells_of(rows);
+    let runs = runs_of(rows);
+    let strings = strings_of(strings);
+    let trits = run_trits_of(bits);
     put_cells(room, n, numbers, widths, cells, strings, runs, trits)
 }
 
@@ -143,7 +149,7 @@ fn put_measured(
     ensures { λ r. ⌜ Wrote (now (room .entry)) 0 (canonicalThen (netlistIn (now (rows .entry)) (now (strings .entry)) (now (bits .entry)))) (now (room .exit)) r ⌝ }
 {
     let n = word_of(rows, 2);
-    take_widths(words(rows, 9411, 4608), &mut widths[0..n]);
+    take_widths(cells_of(rows), &mut widths[0..n]);
     put_numbered(room, rows, strings, bits, &widths[0..n], numbers)
 }
 

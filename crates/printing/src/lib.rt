@@ -1,7 +1,6 @@
 // Printing: the canonical text of the netlist in lent tables. It promises the text, its length and every byte of the room as the
 // definitions of specs/ give them. The check of tables stands below it, the programs above.
 mod good;
-mod parts;
 
 use checking::check_tables;
 use good::count_good;

@@ -7,8 +7,8 @@ use Rattle.printing.proofs.good.put_measured.Tie as tie
 word-of-requires : tie.Need-word-of-requires
 word-of-requires c κs = search needs
 
-words-requires : tie.Need-words-requires
-words-requires c κs = search needs
+cells-of-requires : tie.Need-cells-of-requires
+cells-of-requires c κs = search needs
 
 sub-take-widths : tie.Need-sub-take-widths
 sub-take-widths c = search needs
@@ -20,7 +20,7 @@ part-take-widths-end : tie.Need-part-take-widths-end
 part-take-widths-end c = let p = c .before .before .before .before .before .before .before .before .pre in omega (arith, p .1, few-cells (p .0), c .before .word-of .ensures .0)
 
 take-widths-requires : tie.Need-take-widths-requires
-take-widths-requires c κs = let s = c .before .before .before .before .before .before .before .before .before in widths-asked (s .pre .0) (c .before .before .word-of .ensures .0) (c .before .words .ensures) (s .args .widths .now) (s .pre .1)
+take-widths-requires c κs = let s = c .before .before .before .before .before .before .before .before .before in widths-asked (s .pre .0) (c .before .before .word-of .ensures .0) (c .before .cells-of .ensures) (s .args .widths .now) (s .pre .1)
 
 sub-put-numbered : tie.Need-sub-put-numbered
 sub-put-numbered c = search needs
@@ -32,7 +32,7 @@ part-put-numbered-end : tie.Need-part-put-numbered-end
 part-put-numbered-end c = let p = c .before .before .before .before .before .before .before .before .before .before .before .before .before .before .pre in omega (arith, p .1, few-cells (p .0), c .before .before .before .before .before .before .before .word-of .ensures .0)
 
 put-numbered-requires : tie.Need-put-numbered-requires
-put-numbered-requires c κs = let s = c .before .before .before .before .before .before .before .before .before .before .before .before .before .before .before .before in (s .pre .0, widths-again (s .pre .0) (c .before .before .before .before .before .before .before .before .before .word-of .ensures .0) (c .before .before .before .before .before .before .before .before .words .ensures) (s .args .widths .now) (s .pre .1) _ _ (c .before .before .before .before .before .before .take-widths .ensures), s .pre .2)
+put-numbered-requires c κs = let s = c .before .before .before .before .before .before .before .before .before .before .before .before .before .before .before .before in (s .pre .0, widths-again (s .pre .0) (c .before .before .before .before .before .before .before .before .before .word-of .ensures .0) (c .before .before .before .before .before .before .before .before .cells-of .ensures) (s .args .widths .now) (s .pre .1) _ _ (c .before .before .before .before .before .before .take-widths .ensures), s .pre .2)
 
 same-length : tie.Need-same-length
 same-length c = search needs
@@ -51,7 +51,7 @@ put-measured-spec =
     tie.close
     (tie.spec
     word-of-requires
-    words-requires
+    cells-of-requires
     sub-take-widths
     part-take-widths-start
     part-take-widths-end
