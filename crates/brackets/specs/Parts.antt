@@ -52,7 +52,7 @@ abbrev pub partWidth : Part → ℕ
 partWidth (One b) = baseWidth b
 partWidth (Repeated b n) = n * baseWidth b
 
--- the widest that a part of a text of 65,536 bytes can be
+-- no part of a text of 65,536 bytes is wider than this
 abbrev pub widest : ℕ
 widest = 4294967296
 
@@ -76,7 +76,7 @@ nextPart text k = partedOf (insideAt text k)
 abbrev pub concatEnd : ℕ → Token → Reader → Measured
 concatEnd n t r = pick (isMark 93 t) (measured.Closed n r) (measured.Refused (refusal (refusedPart t) (t .place)))
 
--- 001, Concatenations: parts up to `]`; n is the width so far. "Concatenations don't nest."
+-- 001, Concatenations: parts up to `]`; n is the width so far. Document 01, Text: "Concatenations don't nest."
 unfoldable pub concatFrom : ℕ → List ℕ → ℕ → ℕ → Measured
 concatFrom zero text n k = measured.Refused (refusal 7 (at k))
 concatFrom (suc f) text n k = elim (nextPart text k) [

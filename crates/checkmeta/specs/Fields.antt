@@ -1,5 +1,5 @@
 -- The rules of metadata by the fields of a row: each field's are gathered, with sizes for what lies in pools. The rules are those of
--- the netlist (document 01, Metadata and I/O; rules 10 to 13; "what a kind does not have is empty or 0").
+-- the netlist (document 01, Metadata and I/O; rules 10 to 13), with that of `shape`: what a kind does not have is empty or 0.
 use Prim.Native.Nat.{ℕ, zero, suc}
 use mathlib.Core.Bool.{Bool, not, _&&_, _||_}
 use mathlib.Core.List.{List, [], _∷_}

@@ -23,7 +23,7 @@ pub data Declarations : Type 0 where
   all : Sofar → Declarations
   stopped : Refusal → Declarations
 
--- each declaration takes a byte at least
+-- each declaration takes a byte at least (language/proofs/Progress, `took-past`), so the first line is never met
 unfoldable pub declarationsFrom : ℕ → List ℕ → ℕ → Sofar → Declarations
 declarationsFrom zero text k so = all so
 declarationsFrom (suc f) text k so = elim (formAt text k) [

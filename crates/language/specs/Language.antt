@@ -1,5 +1,5 @@
--- THE LANGUAGE, apart from any order of grounds: when a text says a netlist. The text is sound as a whole; its declarations stand one
--- behind the other, each of good form; and rules 9 to 14 hold of them all.
+-- THE LANGUAGE, apart from the order in which 9 to 14 are asked: when a text says a netlist. The text is sound as a whole; its
+-- declarations stand one behind the other, each of good form (5 to 8, by form/specs/Forms); and rules 9 to 14 hold of them all.
 use Prim.Native.Nat.{ℕ}
 use mathlib.Core.Path.{_≡_}
 use mathlib.Core.Bool.{Bool, true, false, not, _&&_}

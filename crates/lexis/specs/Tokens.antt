@@ -46,7 +46,7 @@ number = 5
 abbrev pub meta : ℕ
 meta = 6
 
--- from, size: the name, decoded; parts, offset, width
+-- from: where the name is written; size: how many bytes it means; parts, offset, width
 abbrev pub io : ℕ
 io = 7
 
@@ -54,7 +54,7 @@ io = 7
 abbrev pub cell : ℕ
 cell = 8
 
--- from, size: the string, decoded
+-- from: where the string is written; size: how many bytes it means
 abbrev pub string : ℕ
 string = 9
 
@@ -212,7 +212,7 @@ tokenAt text k = standingAt text (spanEnd isWhite (drop k text) k)
 unfoldable pub insideAt : List ℕ → ℕ → Step
 insideAt text k = standingAt text (insideEnd (drop k text) false k)
 
--- A part by its number, or n where it is not written; a number that no refusal comes of is not `large`
+-- A part by its number, or n where it is not written; `large` where the token would be refused, 5 or 6
 abbrev pub partOr : ℕ → Suffix → Numeral
 partOr n s = record { value = pick (s .given) (s .value) n; large = s .broken || s .large; end = s .end }
 

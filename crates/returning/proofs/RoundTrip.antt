@@ -53,7 +53,7 @@ module _ (N : Netlist) (v : valid N ≡ true) where
       (λ e. rw e (blank-says ∙ ap says (sym (bare-is N e))))
       (λ e. rw e (lines-return N v))
 
-  -- "printing gives one text per netlist, which reads back to the same"
+  -- "Where that text is within the reader's length limit, reading it gives the same tables back": here, the netlist that they show
   pub returns : length (canonical N) ≤ 65536 → reading (canonical N) ≡ says N
   unfolding reading
   returns l = rw (fine-sound (canonical N) l canonical-fine) sound-returns

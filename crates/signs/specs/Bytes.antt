@@ -84,7 +84,7 @@ isHex b = pick (isDigit b) true (eqb (classOf b) 7)
 abbrev pub isSpecial : ℕ → Bool
 isSpecial b = eqb (classOf b) 15
 
--- Document 01, Text: "Raw 00-1F and 7F are malformed" in a string; `"` ends it and `\` begins an escape
+-- Document 01, Text: "Raw 00-1F and 7F are malformed" in a string; `"` and `\` pass here, and `stringFrom` asks for them first
 abbrev pub isRaw : ℕ → Bool
 isRaw b =
     pick (within 1 3 (classOf b)) (eqb b 0x20)

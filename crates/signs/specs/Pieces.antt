@@ -117,7 +117,8 @@ sized broken = Malformed
 unfoldable pub quotedAt : List ℕ → ℕ → Quoted
 quotedAt text k = sized (stringAt text k)
 
--- how many bytes of the text the next byte of a string takes: 3 an escape, 1 a raw byte, 0 where it is malformed
+-- how many bytes of the text one byte of a string takes, where the string goes on there: 3 an escape, 1 a raw byte, 0 for an escape or a
+-- byte that is malformed. It looks at this one alone, and is not asked at the closing `"`
 abbrev pub takenAt : List ℕ → ℕ → ℕ
 takenAt text k =
     pick (eqb (getD text k 0) 92) (pick (isHex (getD text (k + 1) 0) && isHex (getD text (k + 2) 0)) 3 0)

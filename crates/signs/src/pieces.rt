@@ -275,7 +275,8 @@ fn escapes(t: &[u8; 256], text: &[u8], at: usize) -> bool
     false
 }
 
-// How many bytes of the text the next byte of a string takes: 3 an escape, 1 a raw byte, 0 where it is malformed.
+// How many bytes of the text one byte of a string takes, where the string goes on there: 3 an escape, 1 a raw byte, 0 for an escape or a
+// byte that is malformed. It looks at this one alone, and is not asked at the closing `"`.
 pub fn taken(t: &[u8; 256], text: &[u8], at: usize) -> usize
     requires { ⌜ (now t ≡ table) × (at < length (now text)) ⌝ }
     ensures { λ r. ⌜ (r ≡ takenAt (now (text .entry)) at) × (r ≤ 3) ⌝ }
