@@ -9,8 +9,6 @@ use declaring::declarations::declarations;
 use ending::end_reading;
 use ground::Place;
 use ground::Refusal;
-use regions::trits_end;
-use regions::work_end;
 use scanning::Whole;
 use scanning::scan::whole;
 use signs::classes::classes;
@@ -105,6 +103,19 @@ fn read_in(
     let r = read_blank(text, rows, strings, bits, work);
     clear_words(work);
     r
+}
+
+// Where trits and work space end. A cut at a place that a function tells is checked much faster than one at a large number.
+fn trits_end() -> usize
+    ensures { λ r. ⌜ r ≡ 393728 ⌝ }
+{
+    393728
+}
+
+fn work_end() -> usize
+    ensures { λ r. ⌜ r ≡ 132608 ⌝ }
+{
+    132608
 }
 
 // The same in longer work space.

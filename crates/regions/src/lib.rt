@@ -1,6 +1,5 @@
-// Regions: the parts of lent tables by their names, and the places where tables are cut for writing (docs/LAYOUT.md). It promises that
-// each is the part of the slice that the layout says, as far as the slice goes. Whatever takes whole tables stands above it, the ground
-// below it.
+// Regions: the parts of lent tables by their names (docs/LAYOUT.md). It promises that each is the part of the slice that the layout
+// says, as far as the slice goes. Whatever takes whole tables stands above it, the ground below it.
 ghost use mathlib.Core.Path.{_≡_};
 ghost use Rattle.ground.specs.Regions.{part};
 
@@ -82,58 +81,15 @@ pub fn run_trits_of(bits: &[u8]) -> &[u8]
     bytes_at(bits, 131072, 262656)
 }
 
-// THE READER'S WORK SPACE: the rows of cell numbers, the rows of metadata numbers, then the places of operands.
+// THE READER'S WORK SPACE: the rows of cell numbers stand first, the places of operands last.
 pub fn cell_numbers_of(work: &[u32]) -> &[u32]
     ensures { λ r. ⌜ now r ≡ part 0 65536 (now (work .entry)) ⌝ }
 {
     words_at(work, 0, 65536)
 }
 
-pub fn meta_numbers_of(work: &[u32]) -> &[u32]
-    ensures { λ r. ⌜ now r ≡ part 65536 65536 (now (work .entry)) ⌝ }
-{
-    words_at(work, 65536, 65536)
-}
-
 pub fn places_of(work: &[u32]) -> &[u32]
     ensures { λ r. ⌜ now r ≡ part 131072 1536 (now (work .entry)) ⌝ }
 {
     words_at(work, 131072, 1536)
-}
-
-// PLACES at which tables are cut for writing; a cut at a place told by a function is checked much faster than one at a large number.
-pub fn runs_begin() -> usize
-    ensures { λ r. ⌜ r ≡ 14019 ⌝ }
-{
-    14019
-}
-
-pub fn rows_end() -> usize
-    ensures { λ r. ⌜ r ≡ 26307 ⌝ }
-{
-    26307
-}
-
-pub fn strings_end() -> usize
-    ensures { λ r. ⌜ r ≡ 16384 ⌝ }
-{
-    16384
-}
-
-pub fn run_trits_begin() -> usize
-    ensures { λ r. ⌜ r ≡ 131072 ⌝ }
-{
-    131072
-}
-
-pub fn trits_end() -> usize
-    ensures { λ r. ⌜ r ≡ 393728 ⌝ }
-{
-    393728
-}
-
-pub fn work_end() -> usize
-    ensures { λ r. ⌜ r ≡ 132608 ⌝ }
-{
-    132608
 }

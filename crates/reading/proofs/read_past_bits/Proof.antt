@@ -6,7 +6,7 @@ use Rattle.reading.proofs.read_past_bits.Tie as tie
 use Rattle.reading.proofs.read_past_bits.Reads as reads
 use Rattle.reading.proofs.read_past_bits.Lts as lts
 use Rattle.reading.proofs.read_past_work.Reads as read-past-work-reads
-use Rattle.regions.proofs.trits_end.Reads as trits-end-reads
+use Rattle.reading.proofs.trits_end.Reads as trits-end-reads
 
 -- src/lib.rt:136:9
 trits-end-requires : tie.Need-trits-end-requires

@@ -6,7 +6,7 @@ use Rattle.reading.proofs.read_past_work.Tie as tie
 use Rattle.reading.proofs.read_past_work.Reads as reads
 use Rattle.reading.proofs.read_past_work.Lts as lts
 use Rattle.reading.proofs.read_in.Reads as read-in-reads
-use Rattle.regions.proofs.work_end.Reads as work-end-reads
+use Rattle.reading.proofs.work_end.Reads as work-end-reads
 
 -- src/lib.rt:121:9
 work-end-requires : tie.Need-work-end-requires
