@@ -19,7 +19,7 @@ fn give_bits(bits: &[u8], n: usize) -> bool {
 }
 
 // A load list's outputs have no names.
-pub fn run_list(path: &[u8], list: &[u8], word: &[u8]) -> bool {
+pub(crate) fn run_list(path: &[u8], list: &[u8], word: &[u8]) -> bool {
     let mut ins = [0u8; 8193];
     let mut outs = [0u8; 8192];
     let mut work = [0u8; 8192];
@@ -139,7 +139,7 @@ fn give(rows: &[u32], strings: &[u8], bits: &[u8], n: usize, named: bool) -> boo
     give_bits(bits, n)
 }
 
-pub fn eval_tables(
+pub(crate) fn eval_tables(
     path: &[u8],
     rows: &[u32],
     strings: &[u8],

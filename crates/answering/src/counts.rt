@@ -20,7 +20,7 @@ fn tell_good(path: &[u8], cells: usize, inputs: usize, outputs: usize, records: 
 }
 
 // The list itself tells how many input and output bits the netlist has.
-pub fn tell_counts(path: &[u8], cells: usize, list: &[u8], records: usize) -> bool {
+pub(crate) fn tell_counts(path: &[u8], cells: usize, list: &[u8], records: usize) -> bool {
     if records <= 8192 {
         if 8 * records <= list.len() {
             match check(&list[0..8 * records]) {

@@ -16,7 +16,7 @@ pub enum Job {
 }
 
 // Where what is refused is told: the lines of a check are its answer.
-pub fn told_to(job: Job) -> i32 {
+pub(crate) fn told_to(job: Job) -> i32 {
     match job {
         Job::Check => STDOUT_FILENO,
         _ => STDERR_FILENO,

@@ -47,7 +47,7 @@ fn tell_ident(path: &[u8], rows: &[u32], strings: &[u8], trits: &[u8], row: usiz
 }
 
 // The rows of metadata in their order; 512 are the most there are.
-pub fn tell_names(path: &[u8], rows: &[u32], strings: &[u8], trits: &[u8]) -> bool {
+pub(crate) fn tell_names(path: &[u8], rows: &[u32], strings: &[u8], trits: &[u8]) -> bool {
     let count = word_at(rows, 0);
     let mut row: usize = 0;
     while row < count {
@@ -103,12 +103,18 @@ fn tell_pad_rows(rows: &[u32], strings: &[u8]) -> bool {
     true
 }
 
-pub fn tell_pads(rows: &[u32], strings: &[u8]) -> bool {
+pub(crate) fn tell_pads(rows: &[u32], strings: &[u8]) -> bool {
     tell_written(tell_pad_rows(rows, strings));
     true
 }
 
-pub fn tell_pad(path: &[u8], rows: &[u32], strings: &[u8], trits: &[u8], name: &[u8]) -> bool {
+pub(crate) fn tell_pad(
+    path: &[u8],
+    rows: &[u32],
+    strings: &[u8],
+    trits: &[u8],
+    name: &[u8],
+) -> bool {
     match lookup_io(rows, strings, trits, name) {
         Found::Row(_row, width) => {
             tell_written(tell_width(name, width as usize));

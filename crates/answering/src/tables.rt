@@ -18,7 +18,7 @@ use telling::records::tell_list;
 use translating::Translated;
 use translating::translate;
 
-pub fn refuse(to: i32, path: &[u8], g: Refusal) -> bool {
+pub(crate) fn refuse(to: i32, path: &[u8], g: Refusal) -> bool {
     tell_refusal(to, path, g);
     false
 }
@@ -74,7 +74,7 @@ fn translate_tables(job: Job, path: &[u8], rows: &[u32], strings: &[u8], trits: 
     }
 }
 
-pub fn answer_tables(
+pub(crate) fn answer_tables(
     job: Job,
     path: &[u8],
     rows: &[u32],

@@ -6,7 +6,7 @@ fn wide(word: u32) -> usize {
 }
 
 // The word at a place, and 0 past the end.
-pub fn word_at(words: &[u32], at: usize) -> usize {
+pub(crate) fn word_at(words: &[u32], at: usize) -> usize {
     if at < words.len() {
         return wide(words[at]);
     }
@@ -14,7 +14,7 @@ pub fn word_at(words: &[u32], at: usize) -> usize {
 }
 
 // Standard output may be closed or full; an answer cut short must not be taken for a whole one.
-pub fn tell_written(whole: bool) {
+pub(crate) fn tell_written(whole: bool) {
     if whole {
         return;
     }

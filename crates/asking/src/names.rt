@@ -29,7 +29,7 @@ fn same_raw(text: &[u8], i: usize, j: usize) -> bool
 }
 
 // Whether two strings of the text that mean `size` bytes each mean the same. Most bytes mean themselves.
-pub fn same_string(text: &[u8], a: usize, b: usize, size: usize) -> bool
+fn same_string(text: &[u8], a: usize, b: usize, size: usize) -> bool
     requires { ⌜ (size ≡ length (decoded (now text) a)) × (size ≡ length (decoded (now text) b)) ⌝ }
     ensures { λ r. ⌜ r ≡ same (decoded (now (text .entry)) a) (decoded (now (text .entry)) b) ⌝ }
 {

@@ -118,7 +118,7 @@ fn refused_part(token: Token) -> u8
 }
 
 // What stands next between the brackets of an operand.
-pub fn next_part(t: &[u8; 256], text: &[u8], reader: Reader) -> Parted
+pub(crate) fn next_part(t: &[u8; 256], text: &[u8], reader: Reader) -> Parted
     requires { ⌜ now t ≡ table ⌝ }
     ensures { λ r. ⌜ r ≡ nextPart (now (text .entry)) (reader .next .at) ⌝ }
 {
@@ -263,7 +263,7 @@ fn member_by(t: &[u8; 256], text: &[u8], reader: Reader) -> Membered
 }
 
 // What stands next between the brackets of a set. A reference is taken by its index: a token of it costs more.
-pub fn next_member(t: &[u8; 256], text: &[u8], reader: Reader) -> Membered
+pub(crate) fn next_member(t: &[u8; 256], text: &[u8], reader: Reader) -> Membered
     requires { ⌜ now t ≡ table ⌝ }
     ensures { λ r. ⌜ r ≡ nextMember (now (text .entry)) (reader .next .at) ⌝ }
 {

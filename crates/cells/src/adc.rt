@@ -4,7 +4,7 @@ ghost use mathlib.Core.Path.{_≡_};
 ghost use lib.Seq.{sets};
 ghost use Rattle.trit.specs.Wide.{adcBits};
 
-pub fn put_adc(a: &[u8], b: &[u8], c: u8, out: &mut [u8])
+pub(crate) fn put_adc(a: &[u8], b: &[u8], c: u8, out: &mut [u8])
     ensures { λ _. ⌜ now (out .exit) ≡ sets (now (out .entry)) 0 (adcBits (now (a .entry)) (now (b .entry)) c) ⌝ }
 {
     let n = least(least(a.len(), b.len()), out.len());

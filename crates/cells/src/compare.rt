@@ -33,7 +33,7 @@ fn told_at(told: u8, a: u8, b: u8) -> u8
 }
 
 // A clash is told at once, whatever X stands elsewhere.
-pub fn eq_bit(a: &[u8], b: &[u8]) -> u8
+pub(crate) fn eq_bit(a: &[u8], b: &[u8]) -> u8
     ensures { λ r. ⌜ r ≡ eqBit (now (a .entry)) (now (b .entry)) ⌝ }
 {
     let n = least(a.len(), b.len());
@@ -49,7 +49,7 @@ pub fn eq_bit(a: &[u8], b: &[u8]) -> u8
     told
 }
 
-pub fn ult_bit(a: &[u8], b: &[u8]) -> u8
+pub(crate) fn ult_bit(a: &[u8], b: &[u8]) -> u8
     ensures { λ r. ⌜ r ≡ ultBit (now (a .entry)) (now (b .entry)) ⌝ }
 {
     let n = least(a.len(), b.len());
@@ -63,7 +63,7 @@ pub fn ult_bit(a: &[u8], b: &[u8]) -> u8
 }
 
 // The top place has a and not b, for there 1 is the lesser.
-pub fn slt_bit(a: &[u8], b: &[u8]) -> u8
+pub(crate) fn slt_bit(a: &[u8], b: &[u8]) -> u8
     ensures { λ r. ⌜ r ≡ sltBit (now (a .entry)) (now (b .entry)) ⌝ }
 {
     if a.len() == 0 {
@@ -83,19 +83,19 @@ pub fn slt_bit(a: &[u8], b: &[u8]) -> u8
     trit::carry3(a[top], trit::not3(b[top]), below)
 }
 
-pub fn put_eq(a: &[u8], b: &[u8], out: &mut [u8])
+pub(crate) fn put_eq(a: &[u8], b: &[u8], out: &mut [u8])
     ensures { λ _. ⌜ now (out .exit) ≡ sets (now (out .entry)) 0 (eqBit (now (a .entry)) (now (b .entry)) ∷ []) ⌝ }
 {
     put_bit(eq_bit(a, b), out);
 }
 
-pub fn put_ult(a: &[u8], b: &[u8], out: &mut [u8])
+pub(crate) fn put_ult(a: &[u8], b: &[u8], out: &mut [u8])
     ensures { λ _. ⌜ now (out .exit) ≡ sets (now (out .entry)) 0 (ultBit (now (a .entry)) (now (b .entry)) ∷ []) ⌝ }
 {
     put_bit(ult_bit(a, b), out);
 }
 
-pub fn put_slt(a: &[u8], b: &[u8], out: &mut [u8])
+pub(crate) fn put_slt(a: &[u8], b: &[u8], out: &mut [u8])
     ensures { λ _. ⌜ now (out .exit) ≡ sets (now (out .entry)) 0 (sltBit (now (a .entry)) (now (b .entry)) ∷ []) ⌝ }
 {
     put_bit(slt_bit(a, b), out);

@@ -5,7 +5,7 @@ ghost use lib.Seq.{sets};
 ghost use Rattle.trit.specs.Trit.{andOf, orOf, xorOf};
 ghost use Rattle.trit.specs.Wide.{notBits, pairs};
 
-pub fn put_not(a: &[u8], out: &mut [u8])
+pub(crate) fn put_not(a: &[u8], out: &mut [u8])
     ensures { λ _. ⌜ now (out .exit) ≡ sets (now (out .entry)) 0 (notBits (now (a .entry))) ⌝ }
 {
     let n = least(a.len(), out.len());
@@ -16,7 +16,7 @@ pub fn put_not(a: &[u8], out: &mut [u8])
     }
 }
 
-pub fn put_and(a: &[u8], b: &[u8], out: &mut [u8])
+pub(crate) fn put_and(a: &[u8], b: &[u8], out: &mut [u8])
     ensures { λ _. ⌜ now (out .exit) ≡ sets (now (out .entry)) 0 (pairs andOf (now (a .entry)) (now (b .entry))) ⌝ }
 {
     let n = least(least(a.len(), b.len()), out.len());
@@ -27,7 +27,7 @@ pub fn put_and(a: &[u8], b: &[u8], out: &mut [u8])
     }
 }
 
-pub fn put_or(a: &[u8], b: &[u8], out: &mut [u8])
+pub(crate) fn put_or(a: &[u8], b: &[u8], out: &mut [u8])
     ensures { λ _. ⌜ now (out .exit) ≡ sets (now (out .entry)) 0 (pairs orOf (now (a .entry)) (now (b .entry))) ⌝ }
 {
     let n = least(least(a.len(), b.len()), out.len());
@@ -38,7 +38,7 @@ pub fn put_or(a: &[u8], b: &[u8], out: &mut [u8])
     }
 }
 
-pub fn put_xor(a: &[u8], b: &[u8], out: &mut [u8])
+pub(crate) fn put_xor(a: &[u8], b: &[u8], out: &mut [u8])
     ensures { λ _. ⌜ now (out .exit) ≡ sets (now (out .entry)) 0 (pairs xorOf (now (a .entry)) (now (b .entry))) ⌝ }
 {
     let n = least(least(a.len(), b.len()), out.len());

@@ -5,7 +5,7 @@ ghost use mathlib.Core.Path.{_≡_};
 ghost use lib.Seq.{sets};
 ghost use Rattle.trit.specs.Mux.{muxBits};
 
-pub fn put_mux(s: u8, a: &[u8], b: &[u8], out: &mut [u8])
+pub(crate) fn put_mux(s: u8, a: &[u8], b: &[u8], out: &mut [u8])
     ensures { λ _. ⌜ now (out .exit) ≡ sets (now (out .entry)) 0 (muxBits s (now (a .entry)) (now (b .entry))) ⌝ }
 {
     if s == 1 {

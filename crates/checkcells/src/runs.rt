@@ -106,7 +106,7 @@ fn trits_of(runs: &[u32], at: usize) -> usize
 }
 
 // The walk over the runs of an operand, from the run `first` on, where b trits lie before them.
-pub fn operand_of(
+pub(crate) fn operand_of(
     cells: &[u32],
     n: usize,
     runs: &[u32],

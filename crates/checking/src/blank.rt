@@ -48,7 +48,7 @@ fn past_bytes(pool: &[u8], from: usize) -> usize
 }
 
 // Whether there are only zeros from a place on.
-pub fn no_bytes(pool: &[u8], from: usize) -> bool
+pub(crate) fn no_bytes(pool: &[u8], from: usize) -> bool
     ensures { λ r. ⌜ r ≡ blank (drop from (now (pool .entry))) ⌝ }
 {
     blank_bytes(pool, past_bytes(pool, from))
@@ -95,7 +95,7 @@ fn past_words(table: &[u32], from: usize) -> usize
     i
 }
 
-pub fn no_words(table: &[u32], from: usize) -> bool
+pub(crate) fn no_words(table: &[u32], from: usize) -> bool
     ensures { λ r. ⌜ r ≡ blank (drop from (now (table .entry))) ⌝ }
 {
     blank_words(table, past_words(table, from))

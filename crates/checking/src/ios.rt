@@ -37,7 +37,7 @@ fn io_good(row: &[u32], s: usize) -> bool
 }
 
 // The walk over n rows, where their names begin at s: whether they are good and nothing stands behind them.
-pub fn ios_good(ios: &[u32], n: usize, names: usize) -> Upto
+pub(crate) fn ios_good(ios: &[u32], n: usize, names: usize) -> Upto
     requires { ⌜ (n * 3 ≤ length (now ios)) × (names ≤ 16384) ⌝ }
     ensures { λ r. ⌜ (r ≡ iosWalk (now (ios .entry)) 0 names n) × (uptoOf r ≤ 16384) ⌝ }
 {

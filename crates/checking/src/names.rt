@@ -32,7 +32,7 @@ fn same_bytes(a: &[u8], b: &[u8]) -> bool
 }
 
 // Whether the I/O row i has the name.
-pub fn io_named(ios: &[u32], strings: &[u8], i: usize, name: &[u8]) -> bool
+pub(crate) fn io_named(ios: &[u32], strings: &[u8], i: usize, name: &[u8]) -> bool
     requires { ⌜ (i * 3 + 3 ≤ length (now ios)) × (word (drop (i * 3) (now ios)) 0 + word (drop (i * 3) (now ios)) 1 ≤ length (now strings)) ⌝ }
     ensures { λ r. ⌜ r ≡ same (ioName (now (strings .entry)) (drop (i * 3) (now (ios .entry)))) (now (name .entry)) ⌝ }
 {
@@ -86,7 +86,7 @@ fn ios_marked(ios: &[u32], strings: &[u8], n: usize, seen: &mut [u8]) -> bool
 }
 
 // Whether no two of the n I/O rows have one name.
-pub fn ios_distinct(ios: &[u32], strings: &[u8], n: usize) -> bool
+pub(crate) fn ios_distinct(ios: &[u32], strings: &[u8], n: usize) -> bool
     requires { ⌜ IosNamed (now strings) n (now ios) ⌝ }
     ensures { λ r. ⌜ r ≡ distinct (ioNamesIn (now (strings .entry)) n (now (ios .entry))) ⌝ }
 {
@@ -141,7 +141,13 @@ fn cell_again(cells: &[u32], strings: &[u8], i: usize, n: usize, kind: u32, seen
 }
 
 // Whether no two of the n cells are of the kind and have one name; the map may hold marks already.
-pub fn cells_distinct(cells: &[u32], strings: &[u8], n: usize, kind: u32, seen: &mut [u8]) -> bool
+pub(crate) fn cells_distinct(
+    cells: &[u32],
+    strings: &[u8],
+    n: usize,
+    kind: u32,
+    seen: &mut [u8],
+) -> bool
     requires { ⌜ CellsNamed (now strings) n (now cells) × (length (now seen) ≡ 65536) ⌝ }
     ensures { λ r. ⌜ r ≡ distinct (cellNamesIn (now (strings .entry)) kind n (now (cells .entry))) ⌝ }
 {

@@ -20,7 +20,7 @@ ghost use Rattle.checking.specs.Names.{cellNamesIn, CellsNamed};
 ghost use Rattle.checking.specs.Walk.{uptoOf};
 ghost use Rattle.checking.specs.Parts.{metasPart, iosPart, cellsPart};
 
-pub fn metas_part(metas: &[u32], members: &[u32], bits: &[u8], n: usize) -> Upto
+pub(crate) fn metas_part(metas: &[u32], members: &[u32], bits: &[u8], n: usize) -> Upto
     requires { ⌜ (length (now metas) ≡ 8192) × (length (now members) ≡ 1024) × (length (now bits) ≡ 131072) ⌝ }
     ensures { λ r. ⌜ (r ≡ metasPart (now (metas .entry)) (now (members .entry)) (now (bits .entry)) n) × (uptoOf r ≤ 16384) ⌝ }
 {
@@ -38,7 +38,7 @@ pub fn metas_part(metas: &[u32], members: &[u32], bits: &[u8], n: usize) -> Upto
     }
 }
 
-pub fn ios_part(ios: &[u32], strings: &[u8], n: usize, s: usize) -> Upto
+pub(crate) fn ios_part(ios: &[u32], strings: &[u8], n: usize, s: usize) -> Upto
     requires { ⌜ (length (now ios) ≡ 192) × (length (now strings) ≡ 16384) × (s ≤ 16384) ⌝ }
     ensures { λ r. ⌜ (r ≡ iosPart (now (ios .entry)) (now (strings .entry)) n s) × (uptoOf r ≤ 16384) ⌝ }
 {
@@ -76,7 +76,7 @@ fn names_distinct(cells: &[u32], strings: &[u8], n: usize) -> bool
     )
 }
 
-pub fn cells_part(
+pub(crate) fn cells_part(
     cells: &[u32],
     runs: &[u32],
     bits: &[u8],

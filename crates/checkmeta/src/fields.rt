@@ -13,7 +13,7 @@ pub fn both(a: bool, b: bool) -> bool
     false
 }
 
-pub fn kind_sound(kind: u32) -> bool
+pub(crate) fn kind_sound(kind: u32) -> bool
     ensures { λ r. ⌜ r ≡ kindSound kind ⌝ }
 {
     if kind < 1 {
@@ -23,7 +23,7 @@ pub fn kind_sound(kind: u32) -> bool
 }
 
 // A name of so many bytes: at least one, where the kind has a name.
-pub fn name_sound(kind: u32, size: u32) -> bool
+pub(crate) fn name_sound(kind: u32, size: u32) -> bool
     ensures { λ r. ⌜ r ≡ nameSound kind size ⌝ }
 {
     if kind == 1 {
@@ -38,7 +38,7 @@ pub fn name_sound(kind: u32, size: u32) -> bool
     size <= 255
 }
 
-pub fn text_sound(kind: u32, size: u32) -> bool
+pub(crate) fn text_sound(kind: u32, size: u32) -> bool
     ensures { λ r. ⌜ r ≡ textSound kind size ⌝ }
 {
     if kind == 8 {
@@ -47,7 +47,7 @@ pub fn text_sound(kind: u32, size: u32) -> bool
     size == 0
 }
 
-pub fn members_sound(kind: u32, count: u32) -> bool
+pub(crate) fn members_sound(kind: u32, count: u32) -> bool
     ensures { λ r. ⌜ r ≡ membersSound kind count ⌝ }
 {
     if kind == 1 {
@@ -56,7 +56,7 @@ pub fn members_sound(kind: u32, count: u32) -> bool
     count == 0
 }
 
-pub fn bits_sound(kind: u32, width: u32) -> bool
+pub(crate) fn bits_sound(kind: u32, width: u32) -> bool
     ensures { λ r. ⌜ r ≡ bitsSound kind width ⌝ }
 {
     if kind == 6 {
@@ -68,7 +68,7 @@ pub fn bits_sound(kind: u32, width: u32) -> bool
     width == 0
 }
 
-pub fn number_sound(kind: u32, number: u32) -> bool
+pub(crate) fn number_sound(kind: u32, number: u32) -> bool
     ensures { λ r. ⌜ r ≡ numberSound kind number ⌝ }
 {
     if kind == 4 {
@@ -119,7 +119,7 @@ fn no_range(line: u32, column: u32, lastline: u32, lastcolumn: u32) -> bool
     lastcolumn == 0
 }
 
-pub fn range_sound(kind: u32, line: u32, column: u32, lastline: u32, lastcolumn: u32) -> bool
+pub(crate) fn range_sound(kind: u32, line: u32, column: u32, lastline: u32, lastcolumn: u32) -> bool
     ensures { λ r. ⌜ r ≡ rangeSound kind line column lastline lastcolumn ⌝ }
 {
     if kind == 2 {

@@ -50,7 +50,7 @@ fn refers_to(metas: &[u32], n: usize, after: u32, asks: Asks) -> bool
 }
 
 // `in=` of the row n
-pub fn inside_sound(metas: &[u32], n: usize, kind: u32, inside: u32) -> bool
+pub(crate) fn inside_sound(metas: &[u32], n: usize, kind: u32, inside: u32) -> bool
     requires { ⌜ n * 16 ≤ length (now metas) ⌝ }
     ensures { λ r. ⌜ r ≡ insideSound (kindsIn n (now (metas .entry))) kind inside ⌝ }
 {
@@ -70,7 +70,7 @@ pub fn inside_sound(metas: &[u32], n: usize, kind: u32, inside: u32) -> bool
 }
 
 // `src=` of the row n
-pub fn source_sound(metas: &[u32], n: usize, kind: u32, source: u32) -> bool
+pub(crate) fn source_sound(metas: &[u32], n: usize, kind: u32, source: u32) -> bool
     requires { ⌜ n * 16 ≤ length (now metas) ⌝ }
     ensures { λ r. ⌜ r ≡ sourceSound (kindsIn n (now (metas .entry))) kind source ⌝ }
 {
@@ -87,7 +87,7 @@ pub fn source_sound(metas: &[u32], n: usize, kind: u32, source: u32) -> bool
 }
 
 // Whether the members of a set name earlier rows, none of them a set.
-pub fn all_members(metas: &[u32], n: usize, members: &[u32]) -> bool
+pub(crate) fn all_members(metas: &[u32], n: usize, members: &[u32]) -> bool
     requires { ⌜ n * 16 ≤ length (now metas) ⌝ }
     ensures { λ r. ⌜ r ≡ every (refers isMember (kindsIn n (now (metas .entry)))) (now (members .entry)) ⌝ }
 {

@@ -31,7 +31,7 @@ fn tell_bad(bad: usize) {
 }
 
 // The files that the arguments from the second on name.
-pub fn check_files(count: usize) {
+pub(crate) fn check_files(count: usize) {
     let mut bad: usize = 0;
     let mut i: usize = 2;
     while i < count {

@@ -48,7 +48,7 @@ fn command_named(word: &[u8]) -> Command {
 }
 
 // The subcommand that an argument names.
-pub fn command_of(i: usize) -> Command {
+pub(crate) fn command_of(i: usize) -> Command {
     let mut room = [0u8; 16];
     let n = os::arg(i, &mut room);
     command_named(&room[..n])

@@ -81,7 +81,7 @@ fn take_file(path: &[u8], room: &mut [u8]) -> Taken
 }
 
 // A byte more than any text or list may have: what is too long is refused as such. Whether the file was read, taken and answered.
-pub fn answer_file(job: Job, path: &[u8], word: &[u8]) -> bool {
+pub(crate) fn answer_file(job: Job, path: &[u8], word: &[u8]) -> bool {
     let mut room = [0u8; 65537];
     let taken = take_file(path, &mut room);
     let n = taken.n;

@@ -3,7 +3,7 @@ use answering::Job;
 use libc::STDERR_FILENO;
 use libc::STDOUT_FILENO;
 
-pub fn tell_help() {
+pub(crate) fn tell_help() {
     io::write_all(
         STDOUT_FILENO,
         b"grackle: netlists for spare control cards, checked, listed and tried\n\n  grackle check FILE..             for each file a line: good, or why not\n  grackle print FILE               the netlist in its one printed form\n  grackle list FILE                the load list, a line of hex for each record\n  grackle load FILE                the load list itself, as bytes\n  grackle eval [--bits] FILE BITS  the outputs of the netlist for these inputs\n  grackle run LIST BITS            the outputs of a load list for these inputs\n",
@@ -20,11 +20,11 @@ fn usage(line: &[u8]) {
     io::write_all(STDERR_FILENO, b"   (`grackle help` tells more)\n");
 }
 
-pub fn tell_unknown() {
+pub(crate) fn tell_unknown() {
     usage(b"check|print|list|load|eval|run|names|pads|pad|help ..");
 }
 
-pub fn tell_usage(job: Job) {
+pub(crate) fn tell_usage(job: Job) {
     match job {
         Job::Check => usage(b"check FILE.."),
         Job::Print => usage(b"print FILE"),

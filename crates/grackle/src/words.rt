@@ -1,7 +1,7 @@
 // Words of the command line.
 
 // Whether two words are the same.
-pub fn same(a: &[u8], b: &[u8]) -> bool {
+pub(crate) fn same(a: &[u8], b: &[u8]) -> bool {
     if a.len() != b.len() {
         return false;
     }
@@ -24,7 +24,7 @@ fn byte_at(bytes: &[u8], at: usize) -> u8 {
 }
 
 // Whether an argument is the option for bits alone.
-pub fn is_option(i: usize) -> bool {
+pub(crate) fn is_option(i: usize) -> bool {
     let mut room = [0u8; 16];
     let n = os::arg(i, &mut room);
     same(&room[..n], b"--bits")

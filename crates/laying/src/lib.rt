@@ -61,7 +61,7 @@ pub enum CellLaying {
 }
 
 // The operand's runs behind those in use.
-pub fn lay_operand(
+fn lay_operand(
     t: &[u8; 256],
     text: &[u8],
     operand: Operand,

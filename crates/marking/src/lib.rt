@@ -42,7 +42,7 @@ fn mark_rest(start: u32, name: &[u8], from: usize) -> u32
 }
 
 // The mark of a name, by its kind and all of its bytes.
-pub fn mark_of(kind: u32, name: &[u8]) -> u32
+fn mark_of(kind: u32, name: &[u8]) -> u32
     ensures { λ r. ⌜ r ≡ markOf kind (now (name .entry)) ⌝ }
 {
     let mut mark = mark_kind(kind);

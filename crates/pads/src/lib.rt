@@ -51,7 +51,7 @@ fn same_bytes(a: &[u8], b: &[u8]) -> bool
 }
 
 // Whether the pad's name lies in the strings and is the asked one.
-pub fn pad_named(strings: &[u8], pad: Pad, name: &[u8]) -> bool
+fn pad_named(strings: &[u8], pad: Pad, name: &[u8]) -> bool
     ensures { λ r. ⌜ r ≡ padNamed (now (strings .entry)) pad (now (name .entry)) ⌝ }
 {
     let start = wide(pad.start);
@@ -63,7 +63,7 @@ pub fn pad_named(strings: &[u8], pad: Pad, name: &[u8]) -> bool
 }
 
 // The row where its pad has the name, else what was found behind it.
-pub fn found_at(found: usize, row: usize, strings: &[u8], pad: Pad, name: &[u8]) -> usize
+fn found_at(found: usize, row: usize, strings: &[u8], pad: Pad, name: &[u8]) -> usize
     ensures { λ r. ⌜ r ≡ pick (padNamed (now (strings .entry)) pad (now (name .entry))) row found ⌝ }
 {
     if pad_named(strings, pad, name) {

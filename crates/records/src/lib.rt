@@ -15,14 +15,14 @@ pub struct Records<'a> {
 }
 
 // Whether the list has a record of the number; a part of one counts.
-pub fn is_left_at(list: &[u8], number: usize) -> bool
+fn is_left_at(list: &[u8], number: usize) -> bool
     ensures { λ r. ⌜ r ≡ isLeftAt (now (list .entry)) number ⌝ }
 {
     number < record_count(list)
 }
 
 // The number of the next record. Past the last record it stays, so that no number is too large.
-pub fn number_after(list: &[u8], number: usize) -> usize
+fn number_after(list: &[u8], number: usize) -> usize
     ensures { λ r. ⌜ r ≡ numberAfter (now (list .entry)) number ⌝ }
 {
     if number < record_count(list) {

@@ -238,7 +238,7 @@ pub fn suffix_at(text: &[u8], mark: u8, at: usize) -> Suffix
     }
 }
 
-pub fn is_hex(t: &[u8; 256], b: u8) -> bool
+fn is_hex(t: &[u8; 256], b: u8) -> bool
     requires { ⌜ now t ≡ table ⌝ }
     ensures { λ r. ⌜ r ≡ isHex b ⌝ }
 {
@@ -250,7 +250,7 @@ pub fn is_hex(t: &[u8; 256], b: u8) -> bool
 }
 
 // A byte that stands for itself in a string.
-pub fn is_raw(t: &[u8; 256], b: u8) -> bool
+fn is_raw(t: &[u8; 256], b: u8) -> bool
     requires { ⌜ now t ≡ table ⌝ }
     ensures { λ r. ⌜ r ≡ isRaw b ⌝ }
 {
@@ -277,7 +277,7 @@ fn escapes(t: &[u8; 256], text: &[u8], at: usize) -> bool
 
 // How many bytes of the text one byte of a string takes, where the string goes on there: 3 an escape, 1 a raw byte, 0 for an escape or a
 // byte that is malformed. It looks at this one alone, and is not asked at the closing `"`.
-pub fn taken(t: &[u8; 256], text: &[u8], at: usize) -> usize
+fn taken(t: &[u8; 256], text: &[u8], at: usize) -> usize
     requires { ⌜ (now t ≡ table) × (at < length (now text)) ⌝ }
     ensures { λ r. ⌜ (r ≡ takenAt (now (text .entry)) at) × (r ≤ 3) ⌝ }
 {

@@ -1,6 +1,6 @@
 -- The invariant: the span that is left ends where the whole span ends.
 use Rattle.signs.specs.Bytes.{among}
-use mathlib.Core.Path.{_≡_, refl}
+use mathlib.Core.Path.{_≡_, refl, sym, _∙_}
 use Prim.Native.Nat.{_≤_, _-_}
 use lib.ListN.{length, drop}
 use native.Mathlib.Omega.{arith}
@@ -34,22 +34,24 @@ loop-less c = search needs
 
 loop-again : tie.Need-loop-again Inv-loop μ-loop
 loop-again c = let p = c .before .before .before .before in
-    let a = p .before .before .args in (
+    let a = p .before .before .args in
+    let e = sym (c .before .in-classes .ensures) ∙ c .if1 .taken in (
       omega arith,
-      cc (span-at (among (a .low) (a .high)) (a .text .now) (p .loop .i) true (c .before .before .before .loop-test .taken) (cc)),
+      sym (span-at (among (a .low) (a .high)) (a .text .now) (p .loop .i) true (c .before .before .before .loop-test .taken) e) ∙ p .loop .inv .1,
     )
 
 returns : tie.Need-returns Inv-loop μ-loop
 returns c = let p = c .before .before .before .before in
-    let a = p .before .before .args in (
-      cc (span-at (among (a .low) (a .high)) (a .text .now) (p .loop .i) false (c .before .before .before .loop-test .taken) (cc)),
+    let a = p .before .before .args in
+    let e = sym (c .before .in-classes .ensures) ∙ c .if1 .left in (
+      sym (span-at (among (a .low) (a .high)) (a .text .now) (p .loop .i) false (c .before .before .before .loop-test .taken) e) ∙ p .loop .inv .1,
       p .loop .inv .0,
     )
 
 returns-2 : tie.Need-returns-2 Inv-loop μ-loop
 returns-2 c = let p = c .before in
     let a = p .before .before .args in
-    (cc (span-end (among (a .low) (a .high)) (a .text .now) (p .loop .i) (c .loop-test .left)), p .loop .inv .0)
+    (sym (span-end (among (a .low) (a .high)) (a .text .now) (p .loop .i) (c .loop-test .left)) ∙ p .loop .inv .1, p .loop .inv .0)
 
 pub span-spec : {M : Type 1} → statement M
 span-spec =
