@@ -1,4 +1,6 @@
--- REFUSED ONLY ON THE GROUNDS NAMED: each number that printing, evaluation, translation and the run tell, with what then holds.
+-- REFUSED ONLY ON THE GROUNDS NAMED: each number that printing, evaluation, translation and the run tell, with what then holds and what the
+-- refusal leaves in lent memory. Document 01: "each other refusal changes no lent byte outside work space .. Work space is zero after every
+-- call but one refused 1 (unchanged)".
 -- Assumes nothing.
 use mathlib.Core.Path.{_≡_, refl, ap, _∙_, sym, subst}
 use mathlib.Core.Bool.{Bool, true, false, not, _||_}
@@ -8,7 +10,9 @@ use Prim.Native.Nat.{ℕ, _*_}
 use native.Mathlib.Omega.{arith}
 use lib.Dec.{ltb}
 use lib.ListN.{length}
+use Rattle.ground.specs.Choice.{pick}
 use Rattle.ground.specs.Refusals.{at, refusal}
+use Rattle.ground.specs.Regions.{zeros, over}
 use Rattle.ground.specs.declared.Refusal.{Refusal}
 use Rattle.ground.proofs.Bools.{bool-cases}
 use Rattle.netlist.specs.Netlist.{Netlist}
@@ -34,6 +38,11 @@ use Rattle.translating.specs.Translation.{recordSum}
 use Rattle.translating.specs.declared.Translated.{Translated}
 use Rattle.translating.specs.declared.Translated.the-variants as translated
 
+-- room as it was; the work space as it was where a lent slice is too short (1), else zero
+pub record Left (isShort : Bool) (room room′ work work′ : List ℕ) : Type 0 where
+  pub room-kept : room′ ≡ room
+  pub work-told : work′ ≡ pick isShort work (over 8192 (zeros 8192) work)
+
 -- TRANSLATION: 1, 15, 20, 21, 24
 pub data Untranslated (rows strings bits room work : List ℕ) : Refusal → Type 0 where
   lent-short : short rows strings bits || ltb (length work) 8192 ≡ true → Untranslated rows strings bits room work (refusal 1 (at 0))
@@ -50,20 +59,22 @@ module _ (rows strings bits room work : List ℕ) (g : Refusal) where
   translated-by : (h : Refusal) → translated.Refused h ≡ translated.Refused g → Untranslated rows strings bits room work h → Untranslated rows strings bits room work g
   translated-by h e u = subst (λ (q : Refusal). Untranslated rows strings bits room work q) (ap toldTranslated e) u
 
-  pub translation-refused : translating.translateOf rows strings bits room work .answer ≡ translated.Refused g → Untranslated rows strings bits room work g
+  pub translation-refused : translating.translateOf rows strings bits room work .answer ≡ translated.Refused g
+      → Untranslated rows strings bits room work g
+      × Left (short rows strings bits || ltb (length work) 8192) room (translating.translateOf rows strings bits room work .room) work (translating.translateOf rows strings bits room work .work)
   unfolding translating.translateOf
   translation-refused e =
       bool-cases (short rows strings bits || ltb (length work) 8192)
-      (λ a. translated-by (refusal 1 (at 0)) (rw a at e) (lent-short a))
+      (λ a. (translated-by (refusal 1 (at 0)) (rw a at e) (lent-short a), record { room-kept = rw a; work-told = rw a }))
       (λ a. bool-cases (good (tablesIn rows strings bits))
       (λ b. bool-cases (ringed (netlistIn rows strings bits))
-      (λ c. translated-by (refusal 20 (at 0)) (rw (a, b, c) at e) (in-ring c))
+      (λ c. (translated-by (refusal 20 (at 0)) (rw (a, b, c) at e) (in-ring c), record { room-kept = rw (a, b, c); work-told = rw (a, b, c) }))
       (λ c. bool-cases (ltb 8192 (recordSum (netlistIn rows strings bits)))
-      (λ d. translated-by (refusal 21 (at 0)) (rw (a, b, c, d) at e) (too-many d))
+      (λ d. (translated-by (refusal 21 (at 0)) (rw (a, b, c, d) at e) (too-many d), record { room-kept = rw (a, b, c, d); work-told = rw (a, b, c, d) }))
       (λ d. bool-cases (ltb (length room) (8 * recordSum (netlistIn rows strings bits)))
-      (λ f. translated-by (refusal 24 (at 0)) (rw (a, b, c, d, f) at e) (no-room f))
+      (λ f. (translated-by (refusal 24 (at 0)) (rw (a, b, c, d, f) at e) (no-room f), record { room-kept = rw (a, b, c, d, f); work-told = rw (a, b, c, d, f) }))
       (λ f. let z : _≡_ {A = ℕ} 0 1 = cc (rw (a, b, c, d, f) at e) in absurd (omega arith)))))
-      (λ b. translated-by (refusal 15 (at 0)) (rw (a, b) at e) (not-good b)))
+      (λ b. (translated-by (refusal 15 (at 0)) (rw (a, b) at e) (not-good b), record { room-kept = rw (a, b); work-told = rw (a, b) })))
 
 -- EVALUATION: 1, 15, 20, 23, 24
 pub data Unevaluated (rows strings bits ins outs work : List ℕ) : Refusal → Type 0 where
@@ -81,20 +92,22 @@ module _ (rows strings bits ins outs work : List ℕ) (g : Refusal) where
   evaluated-by : (h : Refusal) → evaluated.Refused h ≡ evaluated.Refused g → Unevaluated rows strings bits ins outs work h → Unevaluated rows strings bits ins outs work g
   evaluated-by h e u = subst (λ (q : Refusal). Unevaluated rows strings bits ins outs work q) (ap toldEvaluated e) u
 
-  pub evaluation-refused : evaluating.evaluateOf rows strings bits ins outs work .answer ≡ evaluated.Refused g → Unevaluated rows strings bits ins outs work g
+  pub evaluation-refused : evaluating.evaluateOf rows strings bits ins outs work .answer ≡ evaluated.Refused g
+      → Unevaluated rows strings bits ins outs work g
+      × Left (short rows strings bits || ltb (length work) 8192) outs (evaluating.evaluateOf rows strings bits ins outs work .outs) work (evaluating.evaluateOf rows strings bits ins outs work .work)
   unfolding evaluating.evaluateOf
   evaluation-refused e =
       bool-cases (short rows strings bits || ltb (length work) 8192)
-      (λ a. evaluated-by (refusal 1 (at 0)) (rw a at e) (lent-short a))
+      (λ a. (evaluated-by (refusal 1 (at 0)) (rw a at e) (lent-short a), record { room-kept = rw a; work-told = rw a }))
       (λ a. bool-cases (good (tablesIn rows strings bits))
       (λ b. bool-cases (ringed (netlistIn rows strings bits))
-      (λ c. evaluated-by (refusal 20 (at 0)) (rw (a, b, c) at e) (in-ring c))
+      (λ c. (evaluated-by (refusal 20 (at 0)) (rw (a, b, c) at e) (in-ring c), record { room-kept = rw (a, b, c); work-told = rw (a, b, c) }))
       (λ c. bool-cases (assigns (inputBits (netlistIn rows strings bits)) ins)
       (λ d. bool-cases (ltb (length outs) (length (evaluation (netlistIn rows strings bits) ins)))
-      (λ f. evaluated-by (refusal 24 (at 0)) (rw (a, b, c, d, f) at e) (no-room f))
+      (λ f. (evaluated-by (refusal 24 (at 0)) (rw (a, b, c, d, f) at e) (no-room f), record { room-kept = rw (a, b, c, d, f); work-told = rw (a, b, c, d, f) }))
       (λ f. let z : _≡_ {A = ℕ} 0 1 = cc (rw (a, b, c, d, f) at e) in absurd (omega arith)))
-      (λ d. evaluated-by (refusal 23 (at 0)) (rw (a, b, c, d) at e) (unassigned d))))
-      (λ b. evaluated-by (refusal 15 (at 0)) (rw (a, b) at e) (not-good b)))
+      (λ d. (evaluated-by (refusal 23 (at 0)) (rw (a, b, c, d) at e) (unassigned d), record { room-kept = rw (a, b, c, d); work-told = rw (a, b, c, d) }))))
+      (λ b. (evaluated-by (refusal 15 (at 0)) (rw (a, b) at e) (not-good b), record { room-kept = rw (a, b); work-told = rw (a, b) })))
 
 -- THE RUN of a list: 1, 22 at its first bad record, 23, 24
 pub data Unrun (list ins outs work : List ℕ) : Refusal → Type 0 where
@@ -111,21 +124,23 @@ module _ (list ins outs work : List ℕ) (g : Refusal) where
   ran-by : (h : Refusal) → ran.Refused h ≡ ran.Refused g → Unrun list ins outs work h → Unrun list ins outs work g
   ran-by h e u = subst (λ (q : Refusal). Unrun list ins outs work q) (ap toldRan e) u
 
-  of-records : (b : Option ℕ) → badRecord list ≡ b → run.ranFrom b list ins outs work .answer ≡ ran.Refused g → Unrun list ins outs work g
-  of-records (some k) b e = ran-by (refusal 22 (at k)) e (malformed k b)
+  of-records : (b : Option ℕ) → badRecord list ≡ b → run.ranFrom b list ins outs work .answer ≡ ran.Refused g
+      → Unrun list ins outs work g × Left false outs (run.ranFrom b list ins outs work .outs) work (run.ranFrom b list ins outs work .work)
+  of-records (some k) b e = (ran-by (refusal 22 (at k)) e (malformed k b), record { room-kept = refl; work-told = refl })
   of-records none b e =
       bool-cases (assigns (recordsWith inputOp (records list)) ins)
       (λ c. bool-cases (ltb (length outs) (length (outputs list ins)))
-      (λ d. ran-by (refusal 24 (at 0)) (rw (c, d) at e) (no-room d))
+      (λ d. (ran-by (refusal 24 (at 0)) (rw (c, d) at e) (no-room d), record { room-kept = rw (c, d); work-told = rw (c, d) }))
       (λ d. let z : _≡_ {A = ℕ} 0 1 = cc (rw (c, d) at e) in absurd (omega arith)))
-      (λ c. ran-by (refusal 23 (at 0)) (rw c at e) (unassigned c))
+      (λ c. (ran-by (refusal 23 (at 0)) (rw c at e) (unassigned c), record { room-kept = rw c; work-told = rw c }))
 
-  pub run-refused : run.runOf list ins outs work .answer ≡ ran.Refused g → Unrun list ins outs work g
+  pub run-refused : run.runOf list ins outs work .answer ≡ ran.Refused g
+      → Unrun list ins outs work g × Left (ltb (length work) 8192) outs (run.runOf list ins outs work .outs) work (run.runOf list ins outs work .work)
   unfolding run.runOf
   run-refused e =
       bool-cases (ltb (length work) 8192)
-      (λ a. ran-by (refusal 1 (at 0)) (rw a at e) (lent-short a))
-      (λ a. of-records (badRecord list) refl (rw a at e))
+      (λ a. (ran-by (refusal 1 (at 0)) (rw a at e) (lent-short a), record { room-kept = rw a; work-told = rw a }))
+      (λ a. let l = of-records (badRecord list) refl (rw a at e) in (l .0, record { room-kept = rw a (l .1 .room-kept); work-told = rw a (l .1 .work-told) }))
 
 -- PRINTING: 1, 15, 24
 pub data Unprinted (rows strings bits room : List ℕ) : Refusal → Type 0 where
@@ -141,13 +156,14 @@ module _ (rows strings bits room : List ℕ) (g : Refusal) where
   printed-by : (h : Refusal) → printed.Refused h ≡ printed.Refused g → Unprinted rows strings bits room h → Unprinted rows strings bits room g
   printed-by h e u = subst (λ (q : Refusal). Unprinted rows strings bits room q) (ap toldPrinted e) u
 
-  pub printing-refused : printing.printOf rows strings bits room .answer ≡ printed.Refused g → Unprinted rows strings bits room g
+  pub printing-refused : printing.printOf rows strings bits room .answer ≡ printed.Refused g
+      → Unprinted rows strings bits room g × (printing.printOf rows strings bits room .room ≡ room)
   unfolding printing.printOf printing.written checkOf
   printing-refused e =
       bool-cases (short rows strings bits)
-      (λ a. printed-by (refusal 1 (at 0)) (rw a at e) (lent-short a))
+      (λ a. (printed-by (refusal 1 (at 0)) (rw a at e) (lent-short a), rw a))
       (λ a. bool-cases (good (tablesIn rows strings bits))
       (λ b. bool-cases (ltb (length room) (length (canonical (netlistIn rows strings bits))))
-      (λ c. printed-by (refusal 24 (at 0)) (rw (a, b, c) at e) (no-room c))
+      (λ c. (printed-by (refusal 24 (at 0)) (rw (a, b, c) at e) (no-room c), rw (a, b, c)))
       (λ c. let z : _≡_ {A = ℕ} 0 1 = cc (rw (a, b, c) at e) in absurd (omega arith)))
-      (λ b. printed-by (refusal 15 (at 0)) (rw (a, b) at e) (not-good b)))
+      (λ b. (printed-by (refusal 15 (at 0)) (rw (a, b) at e) (not-good b), rw (a, b))))

@@ -1,7 +1,6 @@
 mod Taking
 pub mod GoodTables
 pub mod Grounds
-pub mod Leaving
 pub mod EndToEnd
 pub mod OneAnswer
 pub mod Lines

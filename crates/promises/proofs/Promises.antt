@@ -50,8 +50,7 @@ use Rattle.promises.specs.Asking.{Line, answerTo}
 use Rattle.promises.specs.Lines.{markedLines}
 use Rattle.promises.proofs.Lines.{lines-hold}
 use Rattle.promises.proofs.GoodTables.{text-printed, list-made, list-runs, evaluation-made}
-use Rattle.promises.proofs.Grounds.{Unprinted, Unevaluated, Untranslated, Unrun, printing-refused, evaluation-refused, translation-refused, run-refused}
-use Rattle.promises.proofs.Leaving.{Left, printing-leaves, evaluation-leaves, translation-leaves, run-leaves}
+use Rattle.promises.proofs.Grounds.{Left, Unprinted, Unevaluated, Untranslated, Unrun, printing-refused, evaluation-refused, translation-refused, run-refused}
 use Rattle.promises.proofs.EndToEnd.{Answered, end-to-end}
 
 -- "document 01's good tables": good tables are exactly the layouts of valid netlists, and show the netlist again
@@ -119,37 +118,27 @@ one-netlist = one-text
 pub from-any-bytes : (text rows strings bits work : List ℕ) → Answered text rows strings bits work (readOf text rows strings bits work .answer)
 from-any-bytes = end-to-end
 
--- "This holds for lent tables, load lists and bench values as well as for text": each number that is told has its ground
+-- "This holds for lent tables, load lists and bench values as well as for text .. and what a refusal leaves in lent memory is fixed": each
+-- number that is told has its ground; rooms are as they were, work space is zero, or as it was after 1
 module _ (rows strings bits : List ℕ) (g : Refusal) where
-  pub printing-grounds : (room : List ℕ) → printOf rows strings bits room .answer ≡ printed.Refused g → Unprinted rows strings bits room g
+  pub printing-grounds : (room : List ℕ) → printOf rows strings bits room .answer ≡ printed.Refused g
+      → Unprinted rows strings bits room g × (printOf rows strings bits room .room ≡ room)
   printing-grounds room = printing-refused rows strings bits room g
 
-  pub evaluation-grounds : (ins outs work : List ℕ) → evaluateOf rows strings bits ins outs work .answer ≡ evaluated.Refused g → Unevaluated rows strings bits ins outs work g
+  pub evaluation-grounds : (ins outs work : List ℕ) → evaluateOf rows strings bits ins outs work .answer ≡ evaluated.Refused g
+      → Unevaluated rows strings bits ins outs work g
+      × Left (short rows strings bits || ltb (length work) 8192) outs (evaluateOf rows strings bits ins outs work .outs) work (evaluateOf rows strings bits ins outs work .work)
   evaluation-grounds ins outs work = evaluation-refused rows strings bits ins outs work g
 
   -- Demand 3: "Translation is refused only on the grounds named there"
-  pub translation-grounds : (room work : List ℕ) → translateOf rows strings bits room work .answer ≡ translated.Refused g → Untranslated rows strings bits room work g
+  pub translation-grounds : (room work : List ℕ) → translateOf rows strings bits room work .answer ≡ translated.Refused g
+      → Untranslated rows strings bits room work g
+      × Left (short rows strings bits || ltb (length work) 8192) room (translateOf rows strings bits room work .room) work (translateOf rows strings bits room work .work)
   translation-grounds room work = translation-refused rows strings bits room work g
 
-pub run-grounds : (list ins outs work : List ℕ) (g : Refusal) → runOf list ins outs work .answer ≡ ran.Refused g → Unrun list ins outs work g
+pub run-grounds : (list ins outs work : List ℕ) (g : Refusal) → runOf list ins outs work .answer ≡ ran.Refused g
+    → Unrun list ins outs work g × Left (ltb (length work) 8192) outs (runOf list ins outs work .outs) work (runOf list ins outs work .work)
 run-grounds = run-refused
-
--- "what a refusal leaves in lent memory is fixed": rooms as they were, work space zero, or as it was after 1
-module _ (rows strings bits : List ℕ) (g : Refusal) where
-  pub printing-left : (room : List ℕ) → printOf rows strings bits room .answer ≡ printed.Refused g → printOf rows strings bits room .room ≡ room
-  printing-left room = printing-leaves rows strings bits room g
-
-  pub evaluation-left : (ins outs work : List ℕ) → evaluateOf rows strings bits ins outs work .answer ≡ evaluated.Refused g
-      → Left (short rows strings bits || ltb (length work) 8192) outs (evaluateOf rows strings bits ins outs work .outs) work (evaluateOf rows strings bits ins outs work .work)
-  evaluation-left ins outs work = evaluation-leaves rows strings bits ins outs work g
-
-  pub translation-left : (room work : List ℕ) → translateOf rows strings bits room work .answer ≡ translated.Refused g
-      → Left (short rows strings bits || ltb (length work) 8192) room (translateOf rows strings bits room work .room) work (translateOf rows strings bits room work .work)
-  translation-left room work = translation-leaves rows strings bits room work g
-
-pub run-left : (list ins outs work : List ℕ) (g : Refusal) → runOf list ins outs work .answer ≡ ran.Refused g
-    → Left (ltb (length work) 8192) outs (runOf list ins outs work .outs) work (runOf list ins outs work .work)
-run-left = run-leaves
 
 -- Demand 3: "For every netlist whose cells form no ring and whose list by document 01's sum has at most 8,192 records, translation with
 -- enough lent room succeeds", of all good tables, read from a text or not
