@@ -1,75 +1,85 @@
-// The worked texts of the text layer, run. Each line of standard input says one text (`worked` tells how). For each it writes the line
-// and what the text layer answers: the number of declarations by their form, or the first refusal 2 to 8 with its place. The expected
-// answers stand in `stdout`.
-use form::Form;
-use ground::Place;
-use lexis::Reader;
+// Worked cases of every layer, run. Standard input has one list behind the other. A line that begins with `@`, such as `@ readings`,
+// names the list that the lines behind it belong to, by the first letter of its name, and is written as it is; no case begins so. Each
+// other line is a case: it is written, with the answer of its list behind it. The expected answers stand in `stdout`, derived from the
+// documents. The module of each list tells how its lines read and what is answered.
+mod alterings;
+mod bits;
+mod evaluations;
+mod forms;
+mod loads;
+mod namings;
+mod numbers;
+mod printings;
+mod readings;
+mod rooms;
+mod runs;
+mod tables;
+mod telling;
+mod translations;
+
 use libc::STDIN_FILENO;
 use libc::STDOUT_FILENO;
-use scanning::Whole;
+use rooms::byte_at;
+use telling::tell_unless;
 use worked::find;
-use worked::put_text;
-use worked::tell_refused;
+ghost use mathlib.Core.Path.{_≡_};
+ghost use lib.ListN.{length};
 
-fn tell_found(count: usize) {
-    io::write_all(STDOUT_FILENO, b"ok ");
-    io::print_decimal(STDOUT_FILENO, count as u64);
-}
-
-// The declarations one after another; each takes a byte at least.
-fn tell_declarations(text: &[u8]) {
-    let mut reader = Reader {
-        next: Place { at: 0 },
-    };
-    let mut left: usize = text.len();
-    let mut count: usize = 0;
-    while 0 < left {
-        match form::forms::declaration(text, reader) {
-            Form::Took(_, r) => {
-                reader = r;
-            }
-            Form::End => {
-                tell_found(count);
-                return;
-            }
-            Form::Refused(g) => {
-                tell_refused(g);
-                return;
-            }
-        }
-        count += 1;
-        left -= 1;
-    }
-    tell_found(count);
-}
-
-fn tell(text: &[u8]) {
-    match scanning::scan::whole(text) {
-        Whole::Sound => tell_declarations(text),
-        Whole::Unsound(g) => tell_refused(g),
+// What the list whose name begins with the letter answers to a line.
+fn tell_answer(letter: u8, line: &[u8]) {
+    match letter {
+        b'f' => forms::tell_line(line),
+        b'r' => readings::tell_line(line),
+        b'p' => printings::tell_line(line),
+        b'a' => alterings::tell_line(line),
+        b'n' => namings::tell_line(line),
+        b'e' => evaluations::tell_line(line),
+        b't' => translations::tell_line(line),
+        _ => tell_unless(false, b"no list has this line"),
     }
 }
 
-fn tell_line(line: &[u8]) {
-    let mut room = [0u8; 4096];
+fn tell_case(letter: u8, line: &[u8]) {
     io::write_all(STDOUT_FILENO, line);
     io::write_all(STDOUT_FILENO, b" -> ");
-    let n = put_text(line, &mut room);
-    tell(&room[0..n]);
+    tell_answer(letter, line);
     io::write_all(STDOUT_FILENO, b"\n");
 }
 
+fn tell_name(line: &[u8]) {
+    io::write_all(STDOUT_FILENO, line);
+    io::write_all(STDOUT_FILENO, b"\n");
+}
+
+// A line told; the letter of the list that the next line belongs to.
+fn tell_line(letter: u8, line: &[u8]) -> u8 {
+    if byte_at(line, 0) == b'@' {
+        tell_name(line);
+        return byte_at(line, 2);
+    }
+    tell_case(letter, line);
+    letter
+}
+
 fn tell_all(all: &[u8]) {
+    let mut letter: u8 = 0;
     let mut from: usize = 0;
     while from < all.len() {
         let end = find(all, from, 10);
-        tell_line(&all[from..end]);
+        letter = tell_line(letter, &all[from..end]);
         from = end + 1;
     }
 }
 
+// All lists together have to be shorter than this; of longer ones the end would be missing in the output.
+fn room_for_all() -> [u8; 1048576]
+    ensures { λ r. ⌜ 1048576 ≡ length r ⌝ }
+{
+    [0; 1048576]
+}
+
 fn main() {
-    let mut all = [0u8; 262144];
+    let mut all = room_for_all();
     let n = io::read_full(STDIN_FILENO, &mut all);
     tell_all(&all[0..n]);
 }

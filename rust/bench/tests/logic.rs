@@ -7,8 +7,8 @@
 
 use bench::{any_netlist, any_wired, full_netlist, turned_netlist, wired_netlist, Random};
 use grackleivy::{LOGIC_WORK, ROWS, RUN_WORK, STRINGS, TRITS};
+use reference::cases::kept;
 use reference::{lines, read, Refusal, Tables};
-use std::path::Path;
 
 const MARK: u8 = 0xa5;
 /// The longest list, in bytes.
@@ -235,16 +235,11 @@ fn seeded(name: &str) -> Random {
     Random::new(seed)
 }
 
-fn worked_lines(name: &str) -> Vec<String> {
-    let file = Path::new(env!("CARGO_MANIFEST_DIR")).join("../../crates").join(name);
-    std::fs::read_to_string(file).expect("worked lines are there").lines().map(str::to_owned).collect()
-}
-
 #[test]
 fn worked_netlists() {
     let mut random = seeded("worked netlists");
     let mut compared = Compared::new("worked netlists");
-    for line in worked_lines("evaluations/stdin") {
+    for line in kept("stdin", "evaluations").lines() {
         let (bits, text) = line.split_once(" |").expect("bits and a text");
         let ins: Vec<u8> = bits.chars().map(|letter| "01X3".find(letter).expect("a bit") as u8).collect();
         if let Ok(tables) = read(&lines::text(text.as_bytes()).expect("a text")) {
@@ -253,7 +248,7 @@ fn worked_netlists() {
             compared.all(&tables, &mut random);
         }
     }
-    for line in worked_lines("readings/stdin") {
+    for line in kept("stdin", "readings").lines() {
         if let Ok(tables) = read(&lines::text(line.as_bytes()).expect("a text")) {
             compared.all(&tables, &mut random);
         }

@@ -6,8 +6,8 @@
 
 use bench::{alike_netlist, any_netlist, changed, full_netlist, pads_netlist, paired_netlist, Random};
 use grackleivy::{ROWS, STRINGS, TRITS, WORK};
+use reference::cases::kept;
 use reference::{lines, Refusal, Tables, Work};
-use std::path::Path;
 
 /// Words and bytes that are lent beyond the fixed lengths.
 const PAST: usize = 3;
@@ -100,9 +100,7 @@ fn seeded(name: &str) -> Random {
 #[test]
 fn worked_texts() {
     let mut compared = Compared::new("worked texts");
-    let folder = Path::new(env!("CARGO_MANIFEST_DIR")).join("../../crates/readings");
-    let read = |name| std::fs::read_to_string(folder.join(name)).expect("crates/readings is there");
-    let (texts, answers) = (read("stdin"), read("stdout"));
+    let (texts, answers) = (kept("stdin", "readings"), kept("stdout", "readings"));
     assert_eq!(texts.lines().count(), answers.lines().count());
     for (line, answer) in texts.lines().zip(answers.lines()) {
         let text = lines::text(line.as_bytes()).expect("a text");

@@ -7,9 +7,9 @@
 
 use bench::{alike_netlist, any_netlist, full_netlist, pads_netlist, paired_netlist, Random};
 use grackleivy::{ROWS, STRINGS, TRITS};
+use reference::cases::kept;
 use reference::reading::{canonical, full_name};
 use reference::{lines, Refusal, Tables};
-use std::path::Path;
 
 /// What is lent as room: longer than most texts, and full of something.
 const ROOM: usize = 4_096;
@@ -200,8 +200,7 @@ fn changes(compared: &mut Compared, text: &[u8], times: usize, random: &mut Rand
 #[test]
 fn worked_texts() {
     let mut compared = Compared::new("worked texts");
-    let file = Path::new(env!("CARGO_MANIFEST_DIR")).join("../../crates/readings/stdin");
-    for line in std::fs::read_to_string(file).expect("crates/readings is there").lines() {
+    for line in kept("stdin", "readings").lines() {
         let text = lines::text(line.as_bytes()).expect("a text");
         if reference::read(&text).is_ok() {
             compared.all(&text);

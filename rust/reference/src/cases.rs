@@ -1,4 +1,5 @@
-//! Worked cases, each with the answer that the documents give it, printed as the input and the expected output of a program.
+//! Worked cases, each with the answer that the documents give it, printed as the input and the expected output of a program; and the
+//! lists of them that `crates/cases` has, one behind the other.
 
 use std::collections::HashSet;
 use std::io::Write;
@@ -75,6 +76,26 @@ pub fn print(cases: Vec<Case>, answer: impl Fn(&str) -> Result<String, String>) 
         eprintln!("{} cases, each as the documents give it; the word `stdin` or `stdout` prints them", seen.len());
     }
     std::io::stdout().write_all(&out)
+}
+
+/// The lines of a list that `crates/cases` has in the file, `stdin` or `stdout`: those behind `@ LIST`, up to the next line with `@`.
+pub fn kept(file: &str, list: &str) -> String {
+    let heading = format!("@ {list}");
+    let all = file_of_all(file);
+    let behind = all.lines().skip_while(|line| *line != heading).skip(1);
+    let lines: Vec<&str> = behind.take_while(|line| !line.starts_with('@')).collect();
+    assert!(!lines.is_empty(), "crates/cases/{file} has no list {list}");
+    lines.iter().map(|line| format!("{line}\n")).collect()
+}
+
+/// The names of the lists that the file has, in their order.
+pub fn names(file: &str) -> Vec<String> {
+    file_of_all(file).lines().filter_map(|line| line.strip_prefix("@ ")).map(str::to_owned).collect()
+}
+
+fn file_of_all(file: &str) -> String {
+    let path = format!("{}/../../crates/cases/{file}", env!("CARGO_MANIFEST_DIR"));
+    std::fs::read_to_string(path).expect("crates/cases is there")
 }
 
 const LETTERS: [char; 4] = ['0', '1', 'X', '3'];

@@ -1,4 +1,4 @@
-//! Worked texts, one a line, as `crates/readings/stdin` has them, and the line that tells what reading or printing answers.
+//! Worked texts, one a line, as `crates/cases/stdin` has them, and the line that tells what reading or printing answers.
 //!
 //! `\n`, `\r`, `\t`, `\\` and `\xHH` are escapes, and other bytes stand for themselves. `\{N|BODY}` stands for BODY N times, where `\#`
 //! is the number of the round, from 0 on; `}` within a body is written `\x7d`. `\@K ` at the front lets rounds begin at K.
@@ -74,7 +74,7 @@ fn write(mut from: &[u8], round: Option<u32>, text: &mut Vec<u8>) -> Option<()> 
     Some(())
 }
 
-/// What reading answers, in the words of `crates/readings/stdout` behind the line and its arrow.
+/// What reading answers, in the words of the list `readings` behind the line and its arrow.
 pub fn answer(text: &[u8], tables: &mut Tables, work: &mut Work) -> String {
     match read_into(text, tables, work) {
         Err(Refusal { number, place }) => {
@@ -93,7 +93,7 @@ pub fn answer(text: &[u8], tables: &mut Tables, work: &mut Work) -> String {
     }
 }
 
-/// What printing answers to the tables of a text, in the words of `crates/printings/stdout` behind the line and its arrow.
+/// What printing answers to the tables of a text, in the words of the list `printings` behind the line and its arrow.
 pub fn printed(text: &[u8], tables: &mut Tables, work: &mut Work) -> String {
     match read_into(text, tables, work) {
         Err(Refusal { number, place }) => format!("refused {number} at {place}"),

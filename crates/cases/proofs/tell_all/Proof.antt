@@ -9,48 +9,38 @@ use Rattle.worked.proofs.find.Reads as find-reads
 use Rattle.cases.proofs.tell_line.Reads as tell-line-reads
 
 abbrev Inv-loop : tie.InvT-loop
-Inv-loop all from₀ from = from ≤ length all + 1
+Inv-loop all letter₀ from₀ letter from = from ≤ length all + 1
 
 abbrev μ-loop : tie.MeasureT-loop
-μ-loop all from₀ from = length all + 1 - from
+μ-loop all letter₀ from₀ letter from = length all + 1 - from
 
--- src/main.rt:170:5
 loop-holds : tie.Need-loop-holds Inv-loop μ-loop
 loop-holds c = search needs
 
--- src/main.rt:171:13
 find-requires : tie.Need-find-requires Inv-loop μ-loop
 find-requires c κs = search needs
 
--- src/main.rt:172:19
 sub-tell-line : tie.Need-sub-tell-line Inv-loop μ-loop
 sub-tell-line c = search needs
 
--- src/main.rt:172:19
 part-tell-line-start : tie.Need-part-tell-line-start Inv-loop μ-loop
 part-tell-line-start c = search needs
 
--- src/main.rt:172:19
 part-tell-line-end : tie.Need-part-tell-line-end Inv-loop μ-loop
 part-tell-line-end c = search needs
 
--- src/main.rt:172:9
 tell-line-requires : tie.Need-tell-line-requires Inv-loop μ-loop
 tell-line-requires c κs = search needs
 
--- src/main.rt:173:16
 add-from : tie.Need-add-from Inv-loop μ-loop
 add-from c = search needs
 
--- src/main.rt:170:5
 loop-less : tie.Need-loop-less Inv-loop μ-loop
 loop-less c = search needs
 
--- src/main.rt:170:5
 loop-again : tie.Need-loop-again Inv-loop μ-loop
 loop-again c = search needs
 
--- src/main.rt:168:1
 returns : tie.Need-returns Inv-loop μ-loop
 returns c = search needs
 

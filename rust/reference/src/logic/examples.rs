@@ -77,9 +77,8 @@ fn bad_records_by_their_place() {
 /// Every worked evaluation: the evaluator that asks says what the one that places says, and the list runs to the same bits.
 #[test]
 fn worked_evaluations_three_times() {
-    let file = concat!(env!("CARGO_MANIFEST_DIR"), "/../../crates/evaluations/stdin");
     let mut answered = 0;
-    for line in std::fs::read_to_string(file).expect("crates/evaluations is there").lines() {
+    for line in crate::cases::kept("stdin", "evaluations").lines() {
         let (bits, text) = line.split_once(" |").expect("bits and a text");
         let ins: Vec<u8> = bits.chars().map(|letter| "01X3".find(letter).expect("a bit") as u8).collect();
         let tables = match read(&crate::lines::text(text.as_bytes()).expect("a text")) {

@@ -1,4 +1,4 @@
-//! Tables that are nearly good: `crates/alterings/stdin` and the answers that the program there is held to.
+//! Tables that are nearly good: the list `alterings` of `crates/cases` and the answers that the program there is held to.
 //!
 //! Each case gives a text, the places altered in its tables, and whether the documents call them good then; if not, they are refused 15
 //! at 0. The plain reader has to agree: tables are good exactly if what they show, read again, is laid out as they are. So has the plain

@@ -1,4 +1,4 @@
-//! Netlists worked out: `crates/evaluations/stdin` and the answers that the program there is held to.
+//! Netlists worked out: the list `evaluations` of `crates/cases` and the answers that the program there is held to.
 //!
 //! Each case gives input bits, a text, and the output bits or the refusal that the documents give them; the plain evaluator has to agree.
 //! `evaluations stdin` prints the cases, `evaluations stdout` the answers.

@@ -1,4 +1,4 @@
-//! Full names: `crates/namings/stdin` and the answers that the program there is held to.
+//! Full names: the list `namings` of `crates/cases` and the answers that the program there is held to.
 //!
 //! Each case gives a row, a text, and the full name or the refusal that the documents give that row; the plain reader has to agree.
 //! `namings stdin` prints the cases, `namings stdout` the answers.

@@ -1,4 +1,4 @@
-//! The worked texts of printing: `crates/printings/stdin` and the answers that the program there is held to.
+//! The worked texts of printing: the list `printings` of `crates/cases` and the answers that the program there is held to.
 //!
 //! Each case gives a text and the canonical text, or the refusal, that the documents give it; the plain reader has to agree.
 //! `printings stdin` prints the texts, `printings stdout` the answers.

@@ -1,4 +1,4 @@
-//! The worked texts of reading: `crates/readings/stdin` and the answers that the program there is held to.
+//! The worked texts of reading: the list `readings` of `crates/cases` and the answers that the program there is held to.
 //!
 //! Each case gives a text and, but for the sums over its tables, the answer that the documents give it; the plain reader has to agree.
 //! `readings stdin` prints the texts, `readings stdout` the answers, `readings show` the answers with the canonical texts.

@@ -1,4 +1,4 @@
-//! Load lists, made and run: `crates/translations/stdin` and the answers that the program there is held to.
+//! Load lists, made and run: the list `translations` of `crates/cases` and the answers that the program there is held to.
 //!
 //! Each case gives a text and its load list, or input bits and a list and the output bits and slots of its run, or the refusal, as the
 //! documents give them; the plain translator and the plain runner have to agree. `translations stdin` prints the cases, `translations

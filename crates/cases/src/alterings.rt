@@ -1,0 +1,166 @@
+// Tables that are nearly good. Each line says which places are altered, a bar, and a text (`worked` tells how a text is said):
+// `r9412:3 s5:65 t131072:3 |TEXT` reads the text and then sets word 9412 of the rows to 3, byte 5 of the strings to 65 and byte 131072
+// of the trits to 3. The answer is what the check of the tables answers. Printing and the lookup of I/O have to refuse what the check
+// refuses, and nothing else; where they differ, or a refused printing changes its room, that is told.
+use crate::numbers::number;
+use crate::rooms::accepted;
+use crate::rooms::byte_at;
+use crate::rooms::kept;
+use crate::tables::lent_rows;
+use crate::tables::lent_strings;
+use crate::tables::lent_trits;
+use crate::tables::lent_work;
+use crate::tables::text_room;
+use crate::telling::tell_unless;
+use checking::check_tables;
+use checking::lookup_io;
+use ground::Refusal;
+use libc::STDOUT_FILENO;
+use netlist::Checked;
+use netlist::Found;
+use printing::Printed;
+use printing::print_text;
+use reading::Read;
+use reading::read_text;
+use worked::find;
+use worked::put_text;
+use worked::tell_refused;
+
+fn as_word(n: u64) -> u32 {
+    if n < 4294967296 {
+        return n as u32;
+    }
+    0
+}
+
+fn as_byte(n: u64) -> u8 {
+    if n < 256 {
+        return n as u8;
+    }
+    0
+}
+
+fn set_word(words: &mut [u32], at: usize, x: u32) {
+    if at < words.len() {
+        words[at] = x;
+    }
+}
+
+fn set_byte(bytes: &mut [u8], at: usize, x: u8) {
+    if at < bytes.len() {
+        bytes[at] = x;
+    }
+}
+
+// The place in a table, or one past every table.
+fn place_in(own: bool, at: u64) -> usize {
+    if own {
+        return at as usize;
+    }
+    10000000
+}
+
+// One place altered, as `r9412:3` says.
+fn alter_place(alteration: &[u8], rows: &mut [u32], strings: &mut [u8], trits: &mut [u8]) {
+    let table = byte_at(alteration, 0);
+    let colon = find(alteration, 0, 58);
+    let at = number(alteration, 0, colon);
+    let x = number(alteration, colon, alteration.len());
+    set_word(rows, place_in(table == 114, at), as_word(x));
+    set_byte(strings, place_in(table == 115, at), as_byte(x));
+    set_byte(trits, place_in(table == 116, at), as_byte(x));
+}
+
+fn alter(alterations: &[u8], rows: &mut [u32], strings: &mut [u8], trits: &mut [u8]) {
+    let mut from: usize = 0;
+    while from < alterations.len() {
+        let end = find(alterations, from, 32);
+        alter_place(&alterations[from..end], rows, strings, trits);
+        from = end + 1;
+    }
+}
+
+fn same_refusal(g: Refusal, h: Refusal) -> bool {
+    if g.number == h.number {
+        let place = g.place;
+        let other = h.place;
+        return place.at == other.at;
+    }
+    false
+}
+
+fn print_refuses(r: Printed, g: Refusal) -> bool {
+    match r {
+        Printed::Length(_n) => false,
+        Printed::Refused(h) => same_refusal(g, h),
+    }
+}
+
+fn lookup_refuses(r: Found, g: Refusal) -> bool {
+    match r {
+        Found::Row(_i, _w) => false,
+        Found::Refused(h) => same_refusal(g, h),
+    }
+}
+
+fn prints(r: Printed) -> bool {
+    match r {
+        Printed::Length(_n) => true,
+        Printed::Refused(_h) => false,
+    }
+}
+
+// Good tables are looked up: a row, or 18.
+fn looks_up(r: Found) -> bool {
+    match r {
+        Found::Row(_i, _w) => true,
+        Found::Refused(h) => h.number == 18,
+    }
+}
+
+fn tell_bad(g: Refusal, rows: &[u32], strings: &[u8], trits: &[u8]) {
+    let mut room = [7u8; 65536];
+    tell_refused(g);
+    let r = print_text(rows, strings, trits, &mut room);
+    tell_unless(print_refuses(r, g), b" (printing answers otherwise)");
+    tell_unless(kept(&room, 0), b" (printing changes the room)");
+    let f = lookup_io(rows, strings, trits, b"a");
+    tell_unless(lookup_refuses(f, g), b" (the lookup answers otherwise)");
+}
+
+fn tell_good(rows: &[u32], strings: &[u8], trits: &[u8]) {
+    let mut room = [7u8; 65536];
+    io::write_all(STDOUT_FILENO, b"good");
+    let r = print_text(rows, strings, trits, &mut room);
+    tell_unless(prints(r), b" (not printed)");
+    let f = lookup_io(rows, strings, trits, b"a");
+    tell_unless(looks_up(f), b" (not looked up)");
+}
+
+fn tell_check(rows: &[u32], strings: &[u8], trits: &[u8]) {
+    let r = check_tables(rows, strings, trits);
+    match r {
+        Checked::Refused(g) => tell_bad(g, rows, strings, trits),
+        Checked::Good => tell_good(rows, strings, trits),
+    }
+}
+
+fn tell_altered(alterations: &[u8], text: &[u8]) {
+    let mut rows = lent_rows();
+    let mut strings = lent_strings();
+    let mut trits = lent_trits();
+    let mut work = lent_work();
+    let r = read_text(text, &mut rows, &mut strings, &mut trits, &mut work);
+    tell_unless(accepted(r), b"not read: ");
+    alter(alterations, &mut rows, &mut strings, &mut trits);
+    tell_check(&rows, &strings, &trits);
+}
+
+pub(crate) fn tell_line(line: &[u8]) {
+    let mut room = text_room();
+    let bar = find(line, 0, 124);
+    if bar < line.len() {
+        let n = put_text(&line[bar + 1..line.len()], &mut room);
+        tell_altered(&line[0..bar], &room[0..n]);
+    }
+}
