@@ -1,7 +1,7 @@
 // The line of a good netlist in a check: its cells, input and output bits, and records.
 use libc::STDOUT_FILENO;
+use listcheck::check;
 use loadlist::Listed;
-use loadlist::checking::check;
 
 fn tell_count(n: usize, what: &[u8]) -> bool {
     io::write_all(STDOUT_FILENO, b", ");

@@ -13,7 +13,7 @@ use Rattle.ground.specs.Regions.{zeros, pad}
 use Rattle.ground.specs.Text.{same}
 use Rattle.ground.proofs.Bools.{bool-cases, never-both}
 use Rattle.signs.specs.Pieces.{decoded}
-use Rattle.signs.specs.declared.decode.Meant.{Meant}
+use Rattle.signs.specs.declared.pieces.Meant.{Meant}
 use Rattle.signs.proofs.Strings.{next-meant, raw-next}
 use Rattle.netlist.specs.Rules.{taken, ioNames, namesAs}
 use Rattle.marking.specs.Marks.{markMore, markFrom}

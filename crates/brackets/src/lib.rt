@@ -1,8 +1,7 @@
-// Brackets: operands and sets, part by part and member by member, and the words of a declaration. It promises that each part, each
-// member, each width and each refusal 5 to 8 between brackets is the one that the definitions of specs/ give. The form of declarations
-// stands above it, the tokens below.
+// Brackets: what operands, sets and their parts are, as definitions and as values; the words of a declaration, and tokens taken as parts,
+// strings and references. It promises that each is what the definitions of specs/ give. What stands between brackets is measured and
+// walked over in enclosed, above it; the tokens stand below.
 pub mod parts;
-pub mod walks;
 pub mod words;
 
 use ground::Place;

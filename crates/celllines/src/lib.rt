@@ -15,15 +15,15 @@ ghost use Rattle.writing.specs.Words.{text};
 ghost use Rattle.writing.specs.Stands.{Wrote};
 ghost use Rattle.operands.specs.Operands.{heldRuns};
 ghost use Rattle.celllines.specs.CellLines.{declared, nameText, operandText, furtherText, operandsText, cellLine, cellLines, naming};
+use decimals::put_number;
 use kinds::has_name;
 use kinds::operands_of;
 use operands::put_operand;
-use writing::numbers::put_number;
-use writing::references::put_option;
+use quotes::put_quoted;
+use references::put_option;
 use writing::room::put;
 use writing::room::put_all;
-use writing::strings::put_quoted;
-use writing::strings::wide;
+use writing::room::wide;
 
 // A kind's number as a byte: 0, which no kind has, where it is none.
 fn kind_of(x: u32) -> u8

@@ -1,13 +1,13 @@
 // Cell rows, one after the other.
 use crate::runs::Operand;
 use crate::runs::operand_of;
-use checkmeta::fields::both;
-use checkmeta::pools::blank_words;
 use checkmeta::rows::lies_at;
-use checkmeta::rows::word_of;
 use kinds::fits;
 use kinds::has_name;
 use kinds::operands_of;
+use pools::blank_words;
+use pools::both;
+use pools::word_of;
 ghost use mathlib.Core.Path.{_≡_};
 ghost use mathlib.Core.Bool.{true, _||_};
 ghost use Prim.Native.Nat.{_+_, _*_, _≤_, _<_};

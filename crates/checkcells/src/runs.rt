@@ -1,7 +1,7 @@
 // Run rows: the constants and the pieces of operands.
-use checkmeta::pools::all_trits;
 use checkmeta::rows::lies_at;
-use checkmeta::rows::word_of;
+use pools::all_trits;
+use pools::word_of;
 ghost use mathlib.Core.Path.{_≡_};
 ghost use mathlib.Core.Bool.{_&&_};
 ghost use Prim.Native.Nat.{_+_, _*_, _≤_, _<_};

@@ -28,7 +28,7 @@ use Rattle.checkmeta.specs.Walk.{metasWalk}
 use Rattle.checkmeta.specs.declared.rows.Metas.{Metas}
 use Rattle.checkmeta.specs.declared.rows.Metas.the-variants as metas
 use Rattle.checkmeta.proofs.Fits.{none, same-test, every-take, every-part}
-use Rattle.checkmeta.proofs.Laws.{every-below}
+use Rattle.pools.proofs.Laws.{every-below}
 use Rattle.checkmeta.proofs.Link as meta
 use Rattle.checkcells.specs.Runs.{widthsIn}
 use Rattle.checkcells.specs.Walk.{cellsWalk}

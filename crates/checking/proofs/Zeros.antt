@@ -5,7 +5,7 @@ use Prim.Native.Nat.{ℕ, _+_, _<_}
 use native.Mathlib.Omega.{arith}
 use lib.ListN.{length, drop, getD}
 use Rattle.ground.specs.Regions.{blank}
-use Rattle.checkmeta.proofs.Laws.{blank-on}
+use Rattle.pools.proofs.Laws.{blank-on}
 
 -- one zero more
 pub zero-more : (t : List ℕ) (i j n : ℕ) → j < length t → getD t j 0 ≡ 0 → j + 1 ≡ n → blank (drop j t) ≡ blank (drop i t) → blank (drop n t) ≡ blank (drop i t)

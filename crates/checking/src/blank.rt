@@ -1,6 +1,6 @@
 // Zeros behind what lies in a region or pool. Most of what tables hold is zero, so many are looked at in one step.
-use checkmeta::pools::blank_bytes;
-use checkmeta::pools::blank_words;
+use pools::blank_bytes;
+use pools::blank_words;
 ghost use mathlib.Core.Path.{_≡_};
 ghost use Prim.Native.Nat.{_+_, _≤_};
 ghost use lib.ListN.{length, drop};

@@ -1,9 +1,9 @@
 // I/O rows, one after the other.
-use checkmeta::fields::both;
-use checkmeta::pools::blank_words;
 use checkmeta::rows::lies_at;
-use checkmeta::rows::word_of;
 use kinds::wide;
+use pools::blank_words;
+use pools::both;
+use pools::word_of;
 ghost use mathlib.Core.Path.{_≡_};
 ghost use Prim.Native.Nat.{_+_, _*_, _≤_, _<_};
 ghost use lib.ListN.{length, drop};

@@ -1,7 +1,7 @@
 // Names declared twice (rule 9): a name beside those of the rows behind it. The rows are gone through from the last to the first, and each
 // name leaves its mark; only a name whose mark is there already is compared with the names behind it.
-use checkmeta::rows::word_of;
 use marking::is_new_name;
+use pools::word_of;
 ghost use mathlib.Core.Path.{_≡_};
 ghost use mathlib.Core.Bool.{_&&_};
 ghost use Prim.Native.Nat.{_+_, _*_, _-_, _≤_, _<_};

@@ -1,17 +1,7 @@
 // The fields of a metadata row, each by the rules that it has to keep, given the kind.
 ghost use mathlib.Core.Path.{_≡_};
-ghost use mathlib.Core.Bool.{_&&_};
 ghost use Rattle.netlist.specs.Rules.{badRange};
 ghost use Rattle.checkmeta.specs.Fields.{kindSound, nameSound, textSound, membersSound, bitsSound, numberSound, rangeSound, zeroRange};
-
-pub fn both(a: bool, b: bool) -> bool
-    ensures { λ r. ⌜ r ≡ (a && b) ⌝ }
-{
-    if a {
-        return b;
-    }
-    false
-}
 
 pub(crate) fn kind_sound(kind: u32) -> bool
     ensures { λ r. ⌜ r ≡ kindSound kind ⌝ }

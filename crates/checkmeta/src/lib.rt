@@ -2,6 +2,5 @@
 // promises that a walk over the rows that comes to its end is one over metadata that is laid out and sound, and tells where the
 // pools end. The netlist stands below it, the check of whole tables above.
 pub mod fields;
-pub mod pools;
 pub mod refs;
 pub mod rows;

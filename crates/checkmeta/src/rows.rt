@@ -1,17 +1,18 @@
 // Rows of metadata, one after the other.
 use crate::fields::bits_sound;
-use crate::fields::both;
 use crate::fields::kind_sound;
 use crate::fields::members_sound;
 use crate::fields::name_sound;
 use crate::fields::number_sound;
 use crate::fields::range_sound;
 use crate::fields::text_sound;
-use crate::pools::all_trits;
-use crate::pools::blank_words;
 use crate::refs::all_members;
 use crate::refs::inside_sound;
 use crate::refs::source_sound;
+use pools::all_trits;
+use pools::blank_words;
+use pools::both;
+use pools::word_of;
 ghost use mathlib.Core.Path.{_≡_};
 ghost use Prim.Native.Nat.{_+_, _*_, _≤_, _<_};
 ghost use lib.ListN.{length, drop, getD};
@@ -22,13 +23,6 @@ ghost use Rattle.checkmeta.specs.Walk.{sizesSound, valuesSound, lies, pl
 pub enum Metas {
     Wrong,
     Ends(usize, usize, usize),
-}
-
-pub fn word_of(row: &[u32], i: usize) -> usize
-    requires { ⌜ i < length (now row) ⌝ }
-    ensures { λ r. ⌜ (r ≡ getD (now (row .entry)) i 0) × (r < 4294967296) ⌝ }
-{
-    row[i] as usize
 }
 
 // Kind and sizes.

@@ -1,12 +1,12 @@
 // The name that a declaration brings, by its mark: where the mark is new, no name before it is the same.
 use crate::notes::Sort;
 use crate::notes::sort_of;
-use asking::names::name_mark;
 use brackets::Str;
 use form::Declared;
 use form::Wiring;
 use kinds::has_name;
 use marking::is_new;
+use taken::name_mark;
 ghost use mathlib.Core.Path.{_≡_};
 ghost use mathlib.Core.Bool.{true};
 ghost use Rattle.kinds.specs.Kinds.{kindAt};

@@ -19,11 +19,11 @@ use crate::Evaluated;
 use crate::settle::settle;
 use assigning::copy_bits;
 use assigning::count_inputs;
-use checkmeta::pools::all_trits;
 use ground::Place;
 use ground::Refusal;
 use placing::Placed;
 use placing::place;
+use pools::all_trits;
 
 pub(crate) fn refused(number: u8) -> Evaluated
     ensures { λ r. ⌜ r ≡ evaluated.Refused (refusal number (at 0)) ⌝ }

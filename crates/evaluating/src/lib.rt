@@ -4,12 +4,12 @@ pub mod good;
 mod settle;
 
 use checking::check_tables;
-use checkmeta::rows::word_of;
 use clearing::clear_words;
 use good::evaluate_tables;
 use good::refused;
 use ground::Refusal;
 use netlist::Checked;
+use pools::word_of;
 use regions::cells_of;
 use regions::run_trits_of;
 use regions::runs_of;

@@ -11,7 +11,7 @@ ghost use Rattle.evaluating.specs.Sound.{TableSound};
 ghost use Rattle.valuing.specs.Row.{RowSound};
 use assigning::assign;
 use assigning::start_rows;
-use checkmeta::rows::word_of;
+use pools::word_of;
 use valuing::give_row;
 use valuing::work_row;
 

@@ -151,10 +151,8 @@ fn told_by(g: Refusal) -> Told
     ensures { λ r. ⌜ r ≡ toldOf (g .number) (g .place .at) ⌝ }
 {
     let number = g.number as u32;
-    Told {
-        number,
-        place: g.place.at as u64,
-    }
+    let place = g.place.at as u64;
+    Told { number, place }
 }
 
 // The text as a whole: refusal 2, 3 or 4 with its place.

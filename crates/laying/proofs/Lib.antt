@@ -1,7 +1,7 @@
 pub mod Melding
 pub mod Keeping
 pub mod Joining
-pub mod Copying
+pub mod Lasting
 pub mod Adding
 pub mod Spotting
 pub mod Turning

@@ -20,7 +20,7 @@ use Rattle.laying.specs.Growing.{Open, Opened, Grows, BaseIn, PartIn, Pa
 use Rattle.laying.specs.declared.Laid.{Laid}
 use Rattle.laying.specs.declared.Laying.the-variants as laying
 use Rattle.laying.proofs.Adding.{grows-none}
-use Rattle.laying.proofs.Copying.{trits-long}
+use Rattle.constants.proofs.Copying.{trits-long}
 use Rattle.laying.proofs.Melding.{cut-more, length-falling, length-known}
 
 -- of the bits `whole` those before `rest` are laid

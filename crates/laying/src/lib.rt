@@ -4,11 +4,10 @@
 mod operands;
 mod parts;
 mod rows;
-pub mod trits;
 
 use brackets::Operand;
-use brackets::parts::first_token;
 use brackets::parts::is_part;
+use enclosed::measures::first_token;
 use form::Wiring;
 use ground::Place;
 use lexis::Reader;

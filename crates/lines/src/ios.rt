@@ -8,11 +8,11 @@ ghost use Rattle.netlist.specs.View.{ioIn, iosIn};
 ghost use Rattle.writing.specs.Stands.{Wrote};
 ghost use Rattle.lines.specs.Lines.{ioLine, ioLines};
 ghost use Rattle.lines.specs.Pools.{pools};
-use writing::numbers::put_number;
+use decimals::put_number;
+use quotes::put_quoted;
 use writing::room::put;
 use writing::room::put_all;
-use writing::strings::put_quoted;
-use writing::strings::wide;
+use writing::room::wide;
 
 // A line of I/O.
 fn put_io(room: &mut [u8], n: usize, row: &[u32], strings: &[u8]) -> usize

@@ -10,16 +10,16 @@ ghost use Rattle.netlist.specs.View.{metaIn, metasIn};
 ghost use Rattle.writing.specs.Stands.{Wrote};
 ghost use Rattle.lines.specs.Lines.{point, scopeLine, setText, sourceText, scopeText, indexedText, identText, attrValue, attrText, metaBody, metaLine, metaLines};
 ghost use Rattle.lines.specs.Pools.{pools};
-use writing::numbers::put_hash;
-use writing::numbers::put_number;
-use writing::references::put_option;
-use writing::references::put_reference;
-use writing::references::put_references;
+use decimals::put_hash;
+use decimals::put_number;
+use quotes::put_quoted;
+use quotes::put_trits;
+use references::put_option;
+use references::put_reference;
+use references::put_references;
 use writing::room::put;
 use writing::room::put_all;
-use writing::strings::put_quoted;
-use writing::strings::put_trits;
-use writing::strings::wide;
+use writing::room::wide;
 
 // `(#<line> #<column>)`
 fn put_point(room: &mut [u8], n: usize, line: u32, column: u32) -> usize

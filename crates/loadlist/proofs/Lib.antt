@@ -1,4 +1,3 @@
-pub mod Cases
 pub mod Good
 pub mod Laws
 pub mod Walk

@@ -1,7 +1,5 @@
-// The load list: its records and its check, and, in specs/Run, what a run of it is. It promises that any record of any list is read,
-// that a record is read back as it was written, and the first bad record of every list. Trits stand below it; the run, cells and
-// translation above.
-pub mod checking;
+// The load list: its records read and written, and, in specs/, what a good list and a run of it are. It promises that any record of any list
+// is read, and that a record is read back as it was written. Trits stand below it; the check of lists, the run, cells and translation above.
 pub mod records;
 
 use ground::Refusal;

@@ -6,10 +6,10 @@ ghost use lib.ListN.{length};
 ghost use Rattle.ground.specs.Regions.{part};
 ghost use Rattle.writing.specs.Stands.{most, Wrote};
 ghost use Rattle.naming.specs.Rows.{fieldAt, parentAt, ownAt, nameAt, identAt, Rising};
-use writing::numbers::put_signed;
+use decimals::put_signed;
+use writing::room::end_of;
 use writing::room::put;
-use writing::strings::end_of;
-use writing::strings::wide;
+use writing::room::wide;
 
 // A word of a row.
 fn field_of(metas: &[u32], row: usize, i: usize) -> u32

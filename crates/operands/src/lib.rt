@@ -14,11 +14,11 @@ ghost use Rattle.netlist.specs.View.{runIn};
 ghost use Rattle.writing.specs.Parts.{upTo};
 ghost use Rattle.writing.specs.Stands.{Wrote};
 ghost use Rattle.operands.specs.Operands.{offset, width, run, runs, moreRuns, operand, holding, heldRuns};
-use writing::numbers::put_number;
+use decimals::put_number;
+use quotes::put_trits;
+use writing::room::end_of;
 use writing::room::put;
-use writing::strings::end_of;
-use writing::strings::put_trits;
-use writing::strings::wide;
+use writing::room::wide;
 
 // The word at a place, 0 past the end.
 fn word_at(words: &[u32], i: u32) -> u32

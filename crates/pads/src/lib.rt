@@ -2,11 +2,11 @@
 // whose name equals the asked one, and so document 01's lookup in lent tables: a slice made of their I/O rows is searched. The check of
 // tables stands below it.
 use checking::check_tables;
-use checkmeta::rows::word_of;
 use ground::Place;
 use ground::Refusal;
 use netlist::Checked;
 use netlist::Found;
+use pools::word_of;
 use regions::ios_of;
 use regions::strings_of;
 ghost use mathlib.Core.Path.{_≡_};

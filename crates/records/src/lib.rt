@@ -1,8 +1,8 @@
 // The record reader: the lent load list and the number of the record it stands at. It promises the reader at the first record, whether a
 // record is left, the record's operation and fields, and the reader at the next record; read so, a list gives each of its records once and
 // in order. The work is in functions on the plain list. Records stand below it; the listing above.
+use listcheck::record_count;
 use loadlist::Record;
-use loadlist::checking::record_count;
 use loadlist::records::record_at;
 ghost use mathlib.Core.Path.{_≡_};
 ghost use mathlib.Core.Bool.{Bool};

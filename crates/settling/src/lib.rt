@@ -1,6 +1,6 @@
 // Settling: when all of a text is read, the notes of its rows become the rows of docs/LAYOUT.md: every start is filled in, and the
 // strings are laid one behind the other in the order of the canonical text. Saying stands below it, reading above.
-use signs::decode::fill;
+use strings::fill;
 ghost use mathlib.Core.Path.{_≡_};
 ghost use mathlib.Core.List.{List};
 ghost use Prim.Native.Nat.{ℕ, _+_, _*_, _<_, _≤_};

@@ -17,7 +17,7 @@ use Rattle.ground.proofs.Tables.{at}
 use Rattle.signs.specs.Bytes.{classFrom, classOf, isHex, isRaw, hexOf}
 use Rattle.signs.specs.Pieces.{Str, whole, broken, prefixed, stringFrom, stringAt, bytesIn, decoded, sized}
 use Rattle.signs.specs.Decoding.{Decoding, meantAt, decodedInto}
-use Rattle.signs.specs.declared.decode.Meant.{Meant}
+use Rattle.signs.specs.declared.pieces.Meant.{Meant}
 use Rattle.signs.specs.declared.pieces.Quoted.the-variants.{Closed, Malformed}
 use Rattle.signs.proofs.Laws.{string-close, string-escape, string-raw}
 

@@ -4,7 +4,7 @@ use mathlib.Core.List.{List}
 use lib.ListN.{length, getD}
 use lib.Seq.{sets}
 use Rattle.signs.specs.Pieces.{decoded, takenAt}
-use Rattle.signs.specs.declared.decode.Meant.{Meant}
+use Rattle.signs.specs.declared.pieces.Meant.{Meant}
 
 -- Document 01, Text: "`\` and two of `0-9a-f` is that byte". The first byte that the string from the place k on means, and the place
 -- past what is written for it.

@@ -1,5 +1,4 @@
-// Signs: what tokens are made of. The classes of bytes, spans, numerals, parts and strings, each read from a place of the text on, and
-// the bytes that a string means. It promises that each is what the definitions of specs/ give. Tokens stand above it, the ground below.
+// Signs: what tokens are made of, as definitions, and the classes of bytes as code: the table of 256 classes and a byte's class by it. It
+// promises that each byte has the class that the definitions of specs/ give. Spans, numerals and strings stand above it, the ground below.
 pub mod classes;
-pub mod decode;
 pub mod pieces;

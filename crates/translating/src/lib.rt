@@ -7,10 +7,10 @@ mod sum;
 mod tables;
 
 use checking::check_tables;
-use checkmeta::rows::word_of;
 use clearing::clear_words;
 use ground::Refusal;
 use netlist::Checked;
+use pools::word_of;
 use regions::cells_of;
 use regions::run_trits_of;
 use regions::runs_of;

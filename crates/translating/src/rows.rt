@@ -1,6 +1,6 @@
 // The records of the cells in their order, with the slots of all bits in one slice.
 use crate::operands::gather_slots;
-use checkmeta::rows::word_of;
+use pools::word_of;
 use recording::make;
 ghost use mathlib.Core.Path.{_≡_};
 ghost use mathlib.Core.List.{List};

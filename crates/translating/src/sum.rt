@@ -1,6 +1,6 @@
 // The number of records of a translation, counted before any is written: 3 and the table's sum over the cells.
 use crate::operands::width_of;
-use checkmeta::rows::word_of;
+use pools::word_of;
 ghost use mathlib.Core.Path.{_≡_};
 ghost use mathlib.Core.List.{List};
 ghost use Prim.Native.Nat.{ℕ, _+_, _*_, _<_, _≤_};

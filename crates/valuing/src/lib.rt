@@ -14,7 +14,7 @@ ghost use Rattle.assigning.specs.Rows.{widthIn};
 ghost use Rattle.valuing.specs.Row.{cellOf, rowValue, Placed, RowSound, Valued};
 use cells::operands::gather;
 use cells::value::put_value;
-use checkmeta::rows::word_of;
+use pools::word_of;
 
 // A word of a cell's row.
 fn word_in(cells: &[u32], row: usize, i: usize) -> usize

@@ -23,7 +23,6 @@ ghost use Rattle.noting.specs.Noted.{metasIn, cellsIn, runsIn, runTritsIn, cell
 ghost use Rattle.noting.specs.Formed.{StrIn, WiringIn, Formed};
 ghost use Rattle.wiring.specs.CellAdding.{nameFrom, nameSize, nameless, outBits, tight, tallyWith, cellWords, placeWords, RowFits, PlacesFit, SameBut, Twice, WorkWith, RunsWith, laidOf, Passed, Keeps};
 use asking::Asks;
-use asking::names::cell_taken;
 use asking::refs::misnames;
 use asking::refs::ref_row;
 use asking::refs::row_of;
@@ -41,6 +40,7 @@ use laying::Laid;
 use laying::lay_cell;
 use noting::Noting;
 use noting::Tally;
+use taken::cell_taken;
 
 fn name_from(w: Wiring) -> usize
     ensures { λ r. ⌜ r ≡ nameFrom w ⌝ }

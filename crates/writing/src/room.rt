@@ -1,7 +1,7 @@
-// Bytes into lent room.
+// Bytes into lent room, and where a part of a pool ends.
 ghost use mathlib.Core.Path.{_≡_};
 ghost use mathlib.Core.List.{List, _∷_, _++_};
-ghost use Prim.Native.Nat.{ℕ};
+ghost use Prim.Native.Nat.{ℕ, _+_, _<_, min};
 ghost use lib.ListN.{length};
 ghost use Rattle.writing.specs.Stands.{Wrote};
 
@@ -30,4 +30,23 @@ pub fn put_all(room: &mut [u8], n: usize, word: &[u8]) -> usize
         i += 1;
     }
     n
+}
+
+pub fn wide(x: u32) -> usize
+    ensures { λ r. ⌜ (r ≡ x) × (r < 4294967296) ⌝ }
+{
+    x as usize
+}
+
+// Where a part of a pool ends: at its own end, or at the pool's where that comes first.
+pub fn end_of(from: usize, size: u32, length: usize) -> usize
+    ensures { λ r. ⌜ r ≡ min (from + size) length ⌝ }
+{
+    if length <= from {
+        return length;
+    }
+    if length - from <= wide(size) {
+        return length;
+    }
+    from + wide(size)
 }

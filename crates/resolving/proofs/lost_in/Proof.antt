@@ -10,8 +10,8 @@ use Rattle.resolving.proofs.lost_in.Statement.{statement}
 use Rattle.resolving.proofs.lost_in.Tie as tie
 use Rattle.resolving.proofs.lost_in.Reads as reads
 use Rattle.resolving.proofs.lost_in.Lts as lts
-use Rattle.brackets.proofs.walks.walk_of.Reads as walk-of-reads
-use Rattle.brackets.proofs.walks.walk_step.Reads as walk-step-reads
+use Rattle.walks.proofs.walk_of.Reads as walk-of-reads
+use Rattle.walks.proofs.walk_step.Reads as walk-step-reads
 use Rattle.resolving.proofs.base_of.Reads as base-of-reads
 use Rattle.resolving.proofs.is_lost.Reads as is-lost-reads
 

@@ -14,8 +14,8 @@ use Rattle.checkcells.proofs.cells.is_placed.Reads as is-placed-reads
 use Rattle.checkcells.proofs.cells.judge.Reads as judge-reads
 use Rattle.checkcells.proofs.cells.kind_known.Reads as kind-known-reads
 use Rattle.checkcells.proofs.cells.operands_good.Reads as operands-good-reads
-use Rattle.checkmeta.proofs.fields.both.Reads as both-reads
-use Rattle.checkmeta.proofs.rows.word_of.Reads as word-of-reads
+use Rattle.pools.proofs.both.Reads as both-reads
+use Rattle.pools.proofs.word_of.Reads as word-of-reads
 
 -- src/cells.rt:170:19
 shared-slice-read-kind-known : tie.Need-shared-slice-read-kind-known

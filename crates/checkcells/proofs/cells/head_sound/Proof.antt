@@ -5,8 +5,8 @@ use Rattle.checkcells.proofs.cells.head_sound.Reads as reads
 use Rattle.checkcells.proofs.cells.head_sound.Lts as lts
 use Rattle.checkcells.proofs.cells.name_sound.Reads as name-sound-reads
 use Rattle.checkcells.proofs.cells.runs_allowed.Reads as runs-allowed-reads
-use Rattle.checkmeta.proofs.fields.both.Reads as both-reads
-use Rattle.checkmeta.proofs.rows.word_of.Reads as word-of-reads
+use Rattle.pools.proofs.both.Reads as both-reads
+use Rattle.pools.proofs.word_of.Reads as word-of-reads
 use Rattle.kinds.proofs.operands_of.Reads as operands-of-reads
 
 -- src/cells.rt:74:9

@@ -3,9 +3,9 @@ use Rattle.checkcells.proofs.cells.is_placed.Statement.{statement}
 use Rattle.checkcells.proofs.cells.is_placed.Tie as tie
 use Rattle.checkcells.proofs.cells.is_placed.Reads as reads
 use Rattle.checkcells.proofs.cells.is_placed.Lts as lts
-use Rattle.checkmeta.proofs.fields.both.Reads as both-reads
+use Rattle.pools.proofs.both.Reads as both-reads
 use Rattle.checkmeta.proofs.rows.lies_at.Reads as lies-at-reads
-use Rattle.checkmeta.proofs.rows.word_of.Reads as word-of-reads
+use Rattle.pools.proofs.word_of.Reads as word-of-reads
 
 -- src/cells.rt:93:16
 word-of-requires : tie.Need-word-of-requires

@@ -4,7 +4,7 @@ use Rattle.checkcells.proofs.runs.joins_next.Statement.{statement}
 use Rattle.checkcells.proofs.runs.joins_next.Tie as tie
 use Rattle.checkcells.proofs.runs.joins_next.Reads as reads
 use Rattle.checkcells.proofs.runs.joins_next.Lts as lts
-use Rattle.checkmeta.proofs.rows.word_of.Reads as word-of-reads
+use Rattle.pools.proofs.word_of.Reads as word-of-reads
 
 -- src/runs.rt:66:9
 word-of-requires : tie.Need-word-of-requires

@@ -5,7 +5,7 @@ use Rattle.checkcells.proofs.runs.resolves_in.Statement.{statement}
 use Rattle.checkcells.proofs.runs.resolves_in.Tie as tie
 use Rattle.checkcells.proofs.runs.resolves_in.Reads as reads
 use Rattle.checkcells.proofs.runs.resolves_in.Lts as lts
-use Rattle.checkmeta.proofs.rows.word_of.Reads as word-of-reads
+use Rattle.pools.proofs.word_of.Reads as word-of-reads
 
 -- src/runs.rt:27:16
 add-result : tie.Need-add-result

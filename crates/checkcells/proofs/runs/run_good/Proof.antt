@@ -6,7 +6,7 @@ use Rattle.checkcells.proofs.runs.run_good.Reads as reads
 use Rattle.checkcells.proofs.runs.run_good.Lts as lts
 use Rattle.checkcells.proofs.runs.const_good.Reads as const-good-reads
 use Rattle.checkcells.proofs.runs.resolves_in.Reads as resolves-in-reads
-use Rattle.checkmeta.proofs.rows.word_of.Reads as word-of-reads
+use Rattle.pools.proofs.word_of.Reads as word-of-reads
 
 -- src/runs.rt:49:9
 word-of-requires : tie.Need-word-of-requires

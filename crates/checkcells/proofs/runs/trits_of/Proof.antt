@@ -7,7 +7,7 @@ use Rattle.checkcells.proofs.runs.trits_of.Statement.{statement}
 use Rattle.checkcells.proofs.runs.trits_of.Tie as tie
 use Rattle.checkcells.proofs.runs.trits_of.Reads as reads
 use Rattle.checkcells.proofs.runs.trits_of.Lts as lts
-use Rattle.checkmeta.proofs.rows.word_of.Reads as word-of-reads
+use Rattle.pools.proofs.word_of.Reads as word-of-reads
 
 -- src/runs.rt:102:8
 mul-if1 : tie.Need-mul-if1

@@ -5,7 +5,7 @@ use Rattle.checking.proofs.blank.no_bytes.Tie as tie
 use Rattle.checking.proofs.blank.no_bytes.Reads as reads
 use Rattle.checking.proofs.blank.no_bytes.Lts as lts
 use Rattle.checking.proofs.blank.past_bytes.Reads as past-bytes-reads
-use Rattle.checkmeta.proofs.pools.blank_bytes.Reads as blank-bytes-reads
+use Rattle.pools.proofs.blank_bytes.Reads as blank-bytes-reads
 
 -- src/blank.rt:54:23
 past-bytes-requires : tie.Need-past-bytes-requires

@@ -5,7 +5,7 @@ use Rattle.checking.proofs.blank.no_words.Tie as tie
 use Rattle.checking.proofs.blank.no_words.Reads as reads
 use Rattle.checking.proofs.blank.no_words.Lts as lts
 use Rattle.checking.proofs.blank.past_words.Reads as past-words-reads
-use Rattle.checkmeta.proofs.pools.blank_words.Reads as blank-words-reads
+use Rattle.pools.proofs.blank_words.Reads as blank-words-reads
 
 -- src/blank.rt:101:24
 past-words-requires : tie.Need-past-words-requires

@@ -4,9 +4,9 @@ use Rattle.checking.proofs.ios.io_good.Tie as tie
 use Rattle.checking.proofs.ios.io_good.Reads as reads
 use Rattle.checking.proofs.ios.io_good.Lts as lts
 use Rattle.checking.proofs.ios.name_wide.Reads as name-wide-reads
-use Rattle.checkmeta.proofs.fields.both.Reads as both-reads
+use Rattle.pools.proofs.both.Reads as both-reads
 use Rattle.checkmeta.proofs.rows.lies_at.Reads as lies-at-reads
-use Rattle.checkmeta.proofs.rows.word_of.Reads as word-of-reads
+use Rattle.pools.proofs.word_of.Reads as word-of-reads
 use Rattle.kinds.proofs.wide.Reads as wide-reads
 
 -- src/ios.rt:31:9

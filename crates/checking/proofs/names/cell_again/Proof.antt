@@ -11,7 +11,7 @@ use Rattle.checking.proofs.names.cell_again.Reads as reads
 use Rattle.checking.proofs.names.cell_again.Lts as lts
 use Rattle.marking.proofs.is_new_name.Reads as is-new-name-reads
 use Rattle.checking.proofs.names.cell_taken.Reads as cell-taken-reads
-use Rattle.checkmeta.proofs.rows.word_of.Reads as word-of-reads
+use Rattle.pools.proofs.word_of.Reads as word-of-reads
 
 -- src/names.rt:131:15
 mul-row : tie.Need-mul-row

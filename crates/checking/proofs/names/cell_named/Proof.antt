@@ -9,7 +9,7 @@ use Rattle.checking.proofs.names.cell_named.Tie as tie
 use Rattle.checking.proofs.names.cell_named.Reads as reads
 use Rattle.checking.proofs.names.cell_named.Lts as lts
 use Rattle.checking.proofs.names.same_bytes.Reads as same-bytes-reads
-use Rattle.checkmeta.proofs.rows.word_of.Reads as word-of-reads
+use Rattle.pools.proofs.word_of.Reads as word-of-reads
 
 -- src/names.rt:80:15
 mul-row : tie.Need-mul-row

@@ -3,7 +3,7 @@ use Rattle.checking.proofs.parts.blank_behind.Statement.{statement}
 use Rattle.checking.proofs.parts.blank_behind.Tie as tie
 use Rattle.checking.proofs.parts.blank_behind.Reads as reads
 use Rattle.checking.proofs.parts.blank_behind.Lts as lts
-use Rattle.checkmeta.proofs.fields.both.Reads as both-reads
+use Rattle.pools.proofs.both.Reads as both-reads
 use Rattle.checking.proofs.blank.no_bytes.Reads as no-bytes-reads
 use Rattle.checking.proofs.blank.no_words.Reads as no-words-reads
 

@@ -14,7 +14,7 @@ use Rattle.checking.proofs.parts.cells_part.Lts as lts
 use Rattle.checkcells.proofs.cells.cells_good.Reads as cells-good-reads
 use Rattle.checking.proofs.parts.blank_behind.Reads as blank-behind-reads
 use Rattle.checking.proofs.parts.names_distinct.Reads as names-distinct-reads
-use Rattle.checkmeta.proofs.fields.both.Reads as both-reads
+use Rattle.pools.proofs.both.Reads as both-reads
 
 -- src/parts.rt:91:9
 returns : tie.Need-returns

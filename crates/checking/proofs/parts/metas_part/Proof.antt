@@ -9,7 +9,7 @@ use Rattle.checking.proofs.parts.metas_part.Statement.{statement}
 use Rattle.checking.proofs.parts.metas_part.Tie as tie
 use Rattle.checking.proofs.parts.metas_part.Reads as reads
 use Rattle.checking.proofs.parts.metas_part.Lts as lts
-use Rattle.checkmeta.proofs.fields.both.Reads as both-reads
+use Rattle.pools.proofs.both.Reads as both-reads
 use Rattle.checking.proofs.blank.no_bytes.Reads as no-bytes-reads
 use Rattle.checking.proofs.blank.no_words.Reads as no-words-reads
 use Rattle.checkmeta.proofs.rows.metas_good.Reads as metas-good-reads

@@ -4,7 +4,7 @@ use Rattle.checking.proofs.parts.names_distinct.Tie as tie
 use Rattle.checking.proofs.parts.names_distinct.Reads as reads
 use Rattle.checking.proofs.parts.names_distinct.Lts as lts
 use Rattle.checking.proofs.names.cells_distinct.Reads as cells-distinct-reads
-use Rattle.checkmeta.proofs.fields.both.Reads as both-reads
+use Rattle.pools.proofs.both.Reads as both-reads
 
 -- src/parts.rt:74:46
 slice-aggregate-cells-distinct : tie.Need-slice-aggregate-cells-distinct

@@ -4,7 +4,7 @@ use lib.ListN.{length, drop}
 use Rattle.ground.specs.Lists.{every}
 use Rattle.netlist.specs.Rules.{refers, isMember}
 use Rattle.checkmeta.specs.Fields.{kindsIn}
-use Rattle.checkmeta.proofs.Laws.{every-on, every-off, every-end}
+use Rattle.pools.proofs.Laws.{every-on, every-off, every-end}
 use borrow.Author.Needs.{needs}
 use Rattle.checkmeta.proofs.refs.all_members.Statement.{statement}
 use Rattle.checkmeta.proofs.refs.all_members.Tie as tie

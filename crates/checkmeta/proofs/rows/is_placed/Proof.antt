@@ -3,9 +3,9 @@ use Rattle.checkmeta.proofs.rows.is_placed.Statement.{statement}
 use Rattle.checkmeta.proofs.rows.is_placed.Tie as tie
 use Rattle.checkmeta.proofs.rows.is_placed.Reads as reads
 use Rattle.checkmeta.proofs.rows.is_placed.Lts as lts
-use Rattle.checkmeta.proofs.fields.both.Reads as both-reads
+use Rattle.pools.proofs.both.Reads as both-reads
 use Rattle.checkmeta.proofs.rows.lies_at.Reads as lies-at-reads
-use Rattle.checkmeta.proofs.rows.word_of.Reads as word-of-reads
+use Rattle.pools.proofs.word_of.Reads as word-of-reads
 
 -- src/rows.rt:82:9
 word-of-requires : tie.Need-word-of-requires

@@ -8,13 +8,13 @@ use Rattle.checkmeta.proofs.rows.meta_good.Statement.{statement}
 use Rattle.checkmeta.proofs.rows.meta_good.Tie as tie
 use Rattle.checkmeta.proofs.rows.meta_good.Reads as reads
 use Rattle.checkmeta.proofs.rows.meta_good.Lts as lts
-use Rattle.checkmeta.proofs.fields.both.Reads as both-reads
-use Rattle.checkmeta.proofs.pools.all_trits.Reads as all-trits-reads
+use Rattle.pools.proofs.both.Reads as both-reads
+use Rattle.pools.proofs.all_trits.Reads as all-trits-reads
 use Rattle.checkmeta.proofs.refs.all_members.Reads as all-members-reads
 use Rattle.checkmeta.proofs.rows.is_placed.Reads as is-placed-reads
 use Rattle.checkmeta.proofs.rows.sizes_sound.Reads as sizes-sound-reads
 use Rattle.checkmeta.proofs.rows.values_sound.Reads as values-sound-reads
-use Rattle.checkmeta.proofs.rows.word_of.Reads as word-of-reads
+use Rattle.pools.proofs.word_of.Reads as word-of-reads
 
 -- src/rows.rt:108:8
 is-placed-requires : tie.Need-is-placed-requires

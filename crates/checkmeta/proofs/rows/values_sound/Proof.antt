@@ -3,7 +3,7 @@ use Rattle.checkmeta.proofs.rows.values_sound.Statement.{statement}
 use Rattle.checkmeta.proofs.rows.values_sound.Tie as tie
 use Rattle.checkmeta.proofs.rows.values_sound.Reads as reads
 use Rattle.checkmeta.proofs.rows.values_sound.Lts as lts
-use Rattle.checkmeta.proofs.fields.both.Reads as both-reads
+use Rattle.pools.proofs.both.Reads as both-reads
 use Rattle.checkmeta.proofs.fields.number_sound.Reads as number-sound-reads
 use Rattle.checkmeta.proofs.fields.range_sound.Reads as range-sound-reads
 use Rattle.checkmeta.proofs.refs.inside_sound.Reads as inside-sound-reads

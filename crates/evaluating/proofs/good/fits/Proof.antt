@@ -6,7 +6,7 @@ use Rattle.evaluating.proofs.good.fits.Tie as tie
 use Rattle.evaluating.proofs.good.fits.Reads as reads
 use Rattle.evaluating.proofs.good.fits.Lts as lts
 use Rattle.assigning.proofs.count_inputs.Reads as count-inputs-reads
-use Rattle.checkmeta.proofs.pools.all_trits.Reads as all-trits-reads
+use Rattle.pools.proofs.all_trits.Reads as all-trits-reads
 
 -- src/good.rt:38:17
 count-inputs-requires : tie.Need-count-inputs-requires

@@ -9,7 +9,7 @@ use Rattle.evaluating.proofs.settle.work_out.Statement.{statement}
 use Rattle.evaluating.proofs.settle.work_out.Tie as tie
 use Rattle.evaluating.proofs.settle.work_out.Reads as reads
 use Rattle.evaluating.proofs.settle.work_out.Lts as lts
-use Rattle.checkmeta.proofs.rows.word_of.Reads as word-of-reads
+use Rattle.pools.proofs.word_of.Reads as word-of-reads
 use Rattle.valuing.proofs.work_row.Reads as work-row-reads
 
 abbrev Inv-loop : tie.InvT-loop

@@ -1,5 +1,5 @@
 use Rattle.saying.specs.Values.{tritsIn}
-use Rattle.laying.proofs.Copying.{trits-long}
+use Rattle.constants.proofs.Copying.{trits-long}
 use Rattle.laying.proofs.Adding.{trits-all, trits-room}
 use native.Mathlib.Omega.{arith}
 use borrow.Author.Needs.{needs}

@@ -1,6 +1,6 @@
 use mathlib.Core.Path.{sym, _∙_}
 use native.Mathlib.Omega.{arith}
-use Rattle.laying.proofs.Copying.{last-some}
+use Rattle.laying.proofs.Lasting.{last-some}
 use borrow.Author.Needs.{needs}
 use Rattle.laying.proofs.rows.last_is_from.Statement.{statement}
 use Rattle.laying.proofs.rows.last_is_from.Tie as tie
