@@ -1,5 +1,5 @@
 -- THE PROMISES: each demand of the tender in its own words, stated of the definitions that the functions' contracts are equations with.
--- Each is proved by citing; OneAnswer has the determinacy of every entry point, Grounds the refusals, EndToEnd what a text comes to.
+-- Each is proved by citing; OneAnswer has the determinacy of every entry point, Grounds and Asked the refusals, EndToEnd what a text comes to.
 use mathlib.Core.Path.{_≡_}
 use mathlib.Core.Bool.{Bool, true, false, _||_}
 use lib.Dec.{ltb}
@@ -13,8 +13,9 @@ use Rattle.netlist.specs.Netlist.{Netlist}
 use Rattle.netlist.specs.Rules.{valid}
 use Rattle.netlist.specs.Tables.{Tables, layout, rowsLength, stringsLength, bitsLength}
 use Rattle.netlist.specs.View.{view}
-use Rattle.netlist.specs.Good.{good, short, checkOf, netlistIn}
+use Rattle.netlist.specs.Good.{good, short, checkOf, netlistIn, lookupOf}
 use Rattle.netlist.specs.declared.Checked.the-variants as checked
+use Rattle.netlist.specs.declared.Found.the-variants as found
 use Rattle.netlist.proofs.Laying.{Long, Layout, view-layout, good-is, layout-good}
 use Rattle.declaring.specs.Reading.{says, reading}
 use Rattle.reading.specs.Outcome.{readOf, made, workLength}
@@ -23,6 +24,9 @@ use Rattle.lines.specs.Lines.{canonical}
 use Rattle.printing.specs.Outcome.{printOf}
 use Rattle.printing.specs.Outcome as print
 use Rattle.printing.specs.declared.Printed.the-variants as printed
+use Rattle.naming.specs.Names.{isIdent, fullName, nameOf}
+use Rattle.naming.specs.Names as name
+use Rattle.naming.specs.declared.Named.the-variants as named
 use Rattle.accepting.proofs.Good.{Accepted, accepted-good, says-accepted}
 use Rattle.language.specs.Language.{Says}
 use Rattle.language.proofs.Exactly.{says-read, read-says}
@@ -51,6 +55,7 @@ use Rattle.promises.specs.Lines.{markedLines}
 use Rattle.promises.proofs.Lines.{lines-hold}
 use Rattle.promises.proofs.GoodTables.{text-printed, list-made, list-runs, evaluation-made}
 use Rattle.promises.proofs.Grounds.{Left, Unprinted, Unevaluated, Untranslated, Unrun, printing-refused, evaluation-refused, translation-refused, run-refused}
+use Rattle.promises.proofs.Asked.{Unnamed, Unfound, First, naming-refused, name-written, lookup-refused, lookup-first}
 use Rattle.promises.proofs.EndToEnd.{Answered, end-to-end}
 
 -- "document 01's good tables": good tables are exactly the layouts of valid netlists, and show the netlist again
@@ -125,6 +130,13 @@ module _ (rows strings bits : List ℕ) (g : Refusal) where
       → Unprinted rows strings bits room g × (printOf rows strings bits room .room ≡ room)
   printing-grounds room = printing-refused rows strings bits room g
 
+  pub naming-grounds : (row : ℕ) (room : List ℕ) → nameOf rows strings bits row room .answer ≡ named.Refused g
+      → Unnamed rows strings bits row room g × (nameOf rows strings bits row room .room ≡ room)
+  naming-grounds row room = naming-refused rows strings bits row room g
+
+  pub lookup-grounds : (asked : List ℕ) → lookupOf rows strings bits asked ≡ found.Refused g → Unfound rows strings bits asked g
+  lookup-grounds asked = lookup-refused rows strings bits asked g
+
   pub evaluation-grounds : (ins outs work : List ℕ) → evaluateOf rows strings bits ins outs work .answer ≡ evaluated.Refused g
       → Unevaluated rows strings bits ins outs work g
       × Left (short rows strings bits || ltb (length work) 8192) outs (evaluateOf rows strings bits ins outs work .outs) work (evaluateOf rows strings bits ins outs work .work)
@@ -139,6 +151,19 @@ module _ (rows strings bits : List ℕ) (g : Refusal) where
 pub run-grounds : (list ins outs work : List ℕ) (g : Refusal) → runOf list ins outs work .answer ≡ ran.Refused g
     → Unrun list ins outs work g × Left (ltb (length work) 8192) outs (runOf list ins outs work .outs) work (runOf list ins outs work .work)
 run-grounds = run-refused
+
+-- Document 01: "The full name of an ident is written parent first": of every ident of good tables, wherever the room takes it
+pub name-written-whole : (rows strings bits : List ℕ) (row : ℕ) (room : List ℕ) → checkOf rows strings bits ≡ checked.Good → isIdent (netlistIn rows strings bits) row ≡ true
+    → length (fullName (netlistIn rows strings bits) row) ≤ length room
+    → nameOf rows strings bits row room
+    ≡ name.made (named.Length (length (fullName (netlistIn rows strings bits) row)))
+    (over (length (fullName (netlistIn rows strings bits) row)) (fullName (netlistIn rows strings bits) row) room)
+name-written-whole = name-written
+
+-- Document 01: "A lookup gives the first I/O row whose name equals the asked one"
+pub first-row-found : (rows strings bits asked : List ℕ) (row width : ℕ) → lookupOf rows strings bits asked ≡ found.Row row width
+    → First (netlistIn rows strings bits .ios) asked row width
+first-row-found = lookup-first
 
 -- Demand 3: "For every netlist whose cells form no ring and whose list by document 01's sum has at most 8,192 records, translation with
 -- enough lent room succeeds", of all good tables, read from a text or not
