@@ -39,14 +39,14 @@ pub fn find(line: &[u8], from: usize, byte: u8) -> usize
     requires { ⌜ from ≤ length (now line) ⌝ }
     ensures { λ r. ⌜ (from ≤ r) × (r ≤ length (now (line .entry))) ⌝ }
 {
-    let mut i = from;
-    while i < line.len() {
-        if line[i] == byte {
-            return i;
+    let mut k = from;
+    while k < line.len() {
+        if line[k] == byte {
+            return k;
         }
-        i += 1;
+        k += 1;
     }
-    i
+    k
 }
 
 // Whether a pattern begins at the place.

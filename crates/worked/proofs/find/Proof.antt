@@ -8,10 +8,10 @@ use Rattle.worked.proofs.find.Reads as reads
 use Rattle.worked.proofs.find.Lts as lts
 
 abbrev Inv-loop : tie.InvT-loop
-Inv-loop line from byte i₀ i = (from ≤ i) × (i ≤ length line)
+Inv-loop line from byte k₀ k = (from ≤ k) × (k ≤ length line)
 
 abbrev μ-loop : tie.MeasureT-loop
-μ-loop line from byte i₀ i = length line - i
+μ-loop line from byte k₀ k = length line - k
 
 -- src/lib.rt:42:5
 loop-holds : tie.Need-loop-holds Inv-loop μ-loop
@@ -26,8 +26,8 @@ returns : tie.Need-returns Inv-loop μ-loop
 returns c = search needs
 
 -- src/lib.rt:46:9
-add-i : tie.Need-add-i Inv-loop μ-loop
-add-i c = search needs
+add-k : tie.Need-add-k Inv-loop μ-loop
+add-k c = search needs
 
 -- src/lib.rt:42:5
 loop-less : tie.Need-loop-less Inv-loop μ-loop
@@ -50,7 +50,7 @@ find-spec =
     loop-holds
     shared-slice-read-if1
     returns
-    add-i
+    add-k
     loop-less
     loop-again
     returns-2)
