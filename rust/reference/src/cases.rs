@@ -114,11 +114,11 @@ pub fn bits(letters: &str) -> Option<Vec<u8>> {
 /// The text of a cell of this kind, given out, over inputs as its operands, and how many input bits it has. Operands have this width, but
 /// for a mux's first and an adc's third.
 pub fn cell_text(word: &str, width: usize) -> (String, usize) {
-    let widths: &[usize] = match word {
-        "buf" | "not" => &[width],
-        "mux" => &[1, width, width],
-        "adc" => &[width, width, 1],
-        _ => &[width, width],
+    let widths = match word {
+        "buf" | "not" => vec![width],
+        "mux" => vec![1, width, width],
+        "adc" => vec![width, width, 1],
+        _ => vec![width, width],
     };
     let made = match word {
         "adc" => width + 1,
