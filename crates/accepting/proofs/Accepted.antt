@@ -12,7 +12,8 @@ use Rattle.ground.specs.Choice.{pick}
 use Rattle.ground.specs.Lists.{every, total, joined}
 use Rattle.ground.specs.declared.Place.{Place}
 use Rattle.ground.specs.declared.Refusal.{Refusal}
-use Rattle.ground.proofs.Bools.{facts, every-first, every-more}
+use Rattle.ground.proofs.Bools.{facts, every-first, every-more, no-facts}
+use Rattle.ground.proofs.Counts.{length-mapped}
 use Rattle.kinds.specs.Kinds.{inputKind, outputKind}
 use Rattle.scanning.specs.Whole.{wholeOf}
 use Rattle.scanning.specs.declared.Whole.{Whole}
@@ -22,20 +23,18 @@ use Rattle.form.specs.declared.Form.{Form}
 use Rattle.form.specs.declared.Form.the-variants as form
 use Rattle.netlist.specs.Netlist.{Io, Cell, Netlist, runsOf, stringsOf, metaStrings}
 use Rattle.netlist.specs.Rules.{distinct, namesAs, outputBits, shortString, roomy, isByte, cellSound, widthsOf, valid}
-use Rattle.netlist.proofs.Laying.{roomy-is}
+use Rattle.netlist.proofs.Laying.{roomy-is, is-roomy}
 use Rattle.saying.specs.Values.{rowRun, rowCell}
 use Rattle.saying.specs.Pieces.{firstUnresolved}
 use Rattle.saying.specs.Rules.{Sofar, nothing, saidBy, added, ruledOut}
 use Rattle.noting.proofs.Forming.{formed}
-use Rattle.noting.proofs.Growing.{length-mapped}
-use Rattle.noting.proofs.Limits.{is-roomy}
 use Rattle.declaring.specs.Reading.{Declarations, all, stopped, declarationsFrom, netlistOf, Reading, says, refused, resolved, declared, readSound, reading}
 use Rattle.reading.proofs.Final as final
 use Rattle.accepting.proofs.Bytes.{sound-bytes}
 use Rattle.accepting.proofs.Forms.{meant}
 use Rattle.accepting.proofs.Numbers.{width-rowed}
 use Rattle.accepting.proofs.Names.{names-rowed}
-use Rattle.accepting.proofs.Said.{no-facts, said-sound}
+use Rattle.accepting.proofs.Said.{said-sound}
 use Rattle.accepting.proofs.Sound.{passed, Sound, nothing-sound, sound-more}
 
 -- ROWS FOR NUMBERS change no width and no limit

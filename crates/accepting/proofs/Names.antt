@@ -7,18 +7,10 @@ use lib.Dec.{eqb}
 use borrow.Author.Tests.{eqb-true, eqb-false, eq-eqb, ne-eqb}
 use Rattle.ground.specs.Text.{same}
 use Rattle.ground.proofs.Bools.{bool-cases, never-both}
+use Rattle.ground.proofs.Same.{same-turned}
 use Rattle.netlist.specs.Netlist.{Cell}
 use Rattle.netlist.specs.Rules.{taken, distinct, namesAs}
 use Rattle.saying.specs.Values.{rowCell}
-
-same-turned : (a b : List ℕ) → same a b ≡ same b a
-unfolding same
-same-turned [] [] = refl
-same-turned [] (y ∷ ys) = refl
-same-turned (x ∷ xs) [] = refl
-same-turned (x ∷ xs) (y ∷ ys) = bool-cases (eqb x y)
-    (λ e. let f : eqb y x ≡ true = eq-eqb y x (sym (eqb-true x y e)) in rw (e, same, f, same) (same-turned xs ys))
-    (λ e. let f : eqb y x ≡ false = ne-eqb y x (λ z. eqb-false x y e (sym z)) in rw (e, same, f, same) refl)
 
 -- a name that is not among the names and not the last
 taken-last : (n m : List ℕ) (ns : List (List ℕ)) → taken n ns ≡ false → same n m ≡ false → taken n (ns ++ (m ∷ [])) ≡ false

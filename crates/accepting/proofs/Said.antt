@@ -10,7 +10,8 @@ use lib.ListN.{length, getD}
 use borrow.Author.Tests.{lt-ltb, le-leb}
 use Rattle.ground.specs.Lists.{every, allOf}
 use Rattle.ground.specs.declared.Place.{Place}
-use Rattle.ground.proofs.Bools.{bool-cases, and-true, and-false, or-right, facts, every-first, every-more}
+use Rattle.ground.proofs.Bools.{bool-cases, and-true, and-false, or-right, facts, every-first, every-more, no-facts}
+use Rattle.ground.proofs.Counts.{length-mapped}
 use Rattle.kinds.specs.Kinds.{kindAt, isKind}
 use Rattle.signs.specs.Pieces.{decoded}
 use Rattle.brackets.specs.Parts.{membersAt}
@@ -30,7 +31,6 @@ use Rattle.saying.specs.Values.{refRow, rowRun, tritsIn, operandRuns, meta, sou
 use Rattle.saying.specs.Pieces.{PieceAt, operandPieces, firstUnresolved}
 use Rattle.saying.specs.Rules.{Sofar, Said, metadata, pad, cell, cellOf, piecesOf, saidBy, Asked, askedOf, misnamed, firstMisnamed}
 use Rattle.noting.specs.Formed.{OperandIn, WiringIn, DeclIn}
-use Rattle.noting.proofs.Growing.{length-mapped}
 use Rattle.noting.proofs.Passing.{not-false}
 use Rattle.wiring.proofs.CellWidths.{operand-wide}
 use Rattle.resolving.proofs.Declared.{both-resolved}
@@ -66,10 +66,6 @@ abbrev pub SaidSound : Sofar → Said → Type 0
 SaidSound so (metadata m) = MetaSaid (kindsOf so) m
 SaidSound so (pad i) = every isByte (i .name) ≡ true
 SaidSound so (cell c a b d ps) = CellSaid (length (so .netlist .metas)) c a b d ps
-
-pub no-facts : allOf [] ≡ true
-unfolding allOf
-no-facts = refl
 
 -- RULE 10, reference by reference
 counted : Option Place → ℕ

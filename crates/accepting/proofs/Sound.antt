@@ -13,7 +13,8 @@ use Rattle.ground.specs.Lists.{every, allOf, total, joined}
 use Rattle.ground.specs.Refusals.{refusal}
 use Rattle.ground.specs.declared.Place.{Place}
 use Rattle.ground.specs.declared.Refusal.{Refusal}
-use Rattle.ground.proofs.Bools.{bool-cases, never-both, and-false, or-false, not-of-false, fact, facts, every-first, every-more}
+use Rattle.ground.proofs.Bools.{bool-cases, never-both, and-false, or-false, not-of-false, fact, facts, every-first, every-more, no-facts}
+use Rattle.ground.proofs.Counts.{length-mapped}
 use Rattle.kinds.specs.Kinds.{kindAt, inputKind, outputKind, wide}
 use Rattle.form.specs.declared.Declared.{Declared}
 use Rattle.netlist.specs.Netlist.{Meta, Io, Cell, operandWidth}
@@ -21,12 +22,12 @@ use Rattle.netlist.specs.Rules.{taken, distinct, ioNames, namesAs, complete, at
 use Rattle.saying.specs.Values.{rowRun, rowCell}
 use Rattle.saying.specs.Pieces.{PieceAt, firstUnresolved}
 use Rattle.saying.specs.Rules.{Sofar, nothing, Said, metadata, pad, cell, saidBy, added, twice, declares, askedOf, firstMisnamed, incomplete, misfit, cramped, ruled, ruledOut}
-use Rattle.noting.proofs.Growing.{map-last, length-mapped, length-last, every-last}
+use Rattle.noting.proofs.Growing.{map-last, length-last, every-last}
 use Rattle.noting.proofs.Passing.{not-false}
 use Rattle.resolving.proofs.Declared.{both-resolved}
 use Rattle.accepting.proofs.Numbers.{width-rowed}
 use Rattle.accepting.proofs.Names.{distinct-last, names-distinct}
-use Rattle.accepting.proofs.Said.{no-facts, kindsOf, MetaSaid, CellSaid, SaidSound}
+use Rattle.accepting.proofs.Said.{kindsOf, MetaSaid, CellSaid, SaidSound}
 
 -- THE RULES that a declaration passes
 pub record Passed (text : List ℕ) (so : Sofar) (d : Declared) (s : Said) : Type 0 where

@@ -5,8 +5,6 @@ pub mod ranges;
 pub mod refs;
 
 use ground::Place;
-ghost use mathlib.Core.Path.{_≡_};
-ghost use lib.ListN.{getD};
 
 // What a reference may name: metadata of any kind, of any but a set, a scope, or a source.
 pub enum Asks {
@@ -20,14 +18,4 @@ pub enum Asks {
 pub enum Misnaming {
     At(Place),
     Nowhere,
-}
-
-// A word of a table; 0 past its end.
-pub fn word_at(table: &[u32], at: usize) -> u32
-    ensures { λ r. ⌜ r ≡ getD (now (table .entry)) at 0 ⌝ }
-{
-    if at < table.len() {
-        return table[at];
-    }
-    0
 }

@@ -1,12 +1,12 @@
 // Metadata references: the rows that they name, and whether they may name them.
 use crate::Asks;
 use crate::Misnaming;
-use crate::word_at;
 use brackets::Members;
 use brackets::Ref;
 use brackets::Toured;
 use walks::tour_of;
 use walks::tour_step;
+use words::word_at;
 ghost use mathlib.Core.Path.{_≡_};
 ghost use mathlib.Core.List.{List};
 ghost use Prim.Native.Nat.{ℕ, _<_, _≤_};

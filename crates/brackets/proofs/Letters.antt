@@ -1,4 +1,4 @@
--- How the comparison of letters goes on, and how a word is looked up in a list.
+-- How much of a text a word may take, and how a word is looked up in a list.
 -- Assumes nothing.
 use mathlib.Core.Path.{_≡_, sym, _∙_}
 use mathlib.Core.Bool.{true, false}
@@ -8,33 +8,9 @@ use Prim.Native.String.{String}
 use native.Mathlib.Omega.{arith}
 use lib.ListN.{length, take, drop, getD, length-drop}
 use lib.Seq.{take-all, take-nil}
-use borrow.Author.Tests.{eq-eqb, ne-eqb}
 use Rattle.ground.specs.Text.{bytes, same}
-use Rattle.ground.proofs.Rest.{rest-cons, rest-end}
+use Rattle.ground.proofs.Rest.{rest-end}
 use Rattle.brackets.specs.Words.{numbered}
-
-module _ (a b : List ℕ) (i : ℕ) where
-  -- a byte that both have: the same, or not
-  pub same-on : i < length a → i < length b → getD a i 0 ≡ getD b i 0 → same (drop (i + 1) a) (drop (i + 1) b) ≡ same (drop i a) (drop i b)
-  unfolding same
-  same-on h k e = rw (rest-cons a i h, rest-cons b i k) (rw (eq-eqb (getD a i 0) (getD b i 0) e, same))
-
-  pub same-differ : i < length a → i < length b → (getD a i 0 ≡ getD b i 0 → ⊥) → false ≡ same (drop i a) (drop i b)
-  unfolding same
-  same-differ h k e = rw (rest-cons a i h, rest-cons b i k) (rw (ne-eqb (getD a i 0) (getD b i 0) e, same))
-
-  -- one of the two ends, or both
-  pub same-short : i < length a → length b ≤ i → false ≡ same (drop i a) (drop i b)
-  unfolding same
-  same-short h k = rw (rest-cons a i h, rest-end b i k)
-
-  pub same-long : length a ≤ i → i < length b → false ≡ same (drop i a) (drop i b)
-  unfolding same
-  same-long h k = rw (rest-end a i h, rest-cons b i k)
-
-  pub same-end : length a ≤ i → length b ≤ i → true ≡ same (drop i a) (drop i b)
-  unfolding same
-  same-end h k = rw (rest-end a i h, rest-end b i k)
 
 -- a run past the end of the text, and one that the text's end cuts short
 pub run-none : (s : List ℕ) (from size : ℕ) → length s < from → [] ≡ take size (drop from s)

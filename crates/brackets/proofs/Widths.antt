@@ -24,6 +24,7 @@ use Rattle.signs.specs.declared.pieces.Numeral.{Numeral}
 use Rattle.signs.specs.declared.pieces.Suffix.{Suffix}
 use Rattle.signs.specs.declared.pieces.Quoted.{Quoted}
 use Rattle.signs.specs.declared.pieces.Quoted.the-variants.{Closed, Malformed}
+use Rattle.signs.proofs.Laws.{span-most}
 use Rattle.brackets.specs.Words.{isSort}
 use Rattle.brackets.specs.Parts.{isPart, str, partOf, partWidth, widest, Narrow, partedOf, nextPart}
 use Rattle.brackets.specs.declared.Base.{Base}
@@ -31,13 +32,6 @@ use Rattle.brackets.specs.declared.Base.the-variants.{Constant, Cell}
 use Rattle.brackets.specs.declared.Part.{Part}
 use Rattle.brackets.specs.declared.Part.the-variants.{One, Repeated}
 use Rattle.brackets.specs.declared.Parted.the-variants as parted
-
-span-most : (p : ℕ → Bool) (s : List ℕ) (k : ℕ) → spanEnd p s k ≤ k + length s
-unfolding spanEnd
-span-most p [] k = omega arith
-span-most p (b ∷ s) k = bool-cases (p b)
-    (λ e. rw (e, spanEnd) (let h = span-most p s (k + 1) in omega arith))
-    (λ e. rw (e, spanEnd) (omega arith))
 
 numeral-most : (text : List ℕ) (k : ℕ) → numeralAt 65535 text k .value ≤ 65535
 unfolding numeralAt

@@ -13,14 +13,24 @@ ghost use Prim.Native.Nat.{_-_, _<_};
 ghost use Rattle.lexis.specs.Tokens.{took, plain};
 ghost use Rattle.brackets.specs.Parts.{isPart, str, baseOf, partOf, ref};
 
+// The place before a place; before the first there is none, and 0 is told.
+fn place_before(end: usize) -> usize
+    ensures { λ r. ⌜ r ≡ end - 1 ⌝ }
+{
+    if 0 < end {
+        return end - 1;
+    }
+    0
+}
+
 // The special character before a place, as it is taken.
 pub fn mark_before(b: u8, end: usize) -> Step
-    requires { ⌜ 0 < end ⌝ }
     ensures { λ r. ⌜ r ≡ took (plain 2 (end - 1) b 0 0) end ⌝ }
 {
+    let at = place_before(end);
     let token = Token {
         sort: 2,
-        place: Place { at: end - 1 },
+        place: Place { at },
         value: b as u32,
         from: 0,
         size: 0,

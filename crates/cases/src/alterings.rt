@@ -1,19 +1,24 @@
 // Tables that are nearly good. Each line says which places are altered, a bar, and a text (`worked` tells how a text is said):
 // `r9412:3 s5:65 t131072:3 |TEXT` reads the text and then sets word 9412 of the rows to 3, byte 5 of the strings to 65 and byte 131072
-// of the trits to 3. The answer is what the check of the tables answers. Printing and the lookup of I/O have to refuse what the check
-// refuses, and nothing else; where they differ, or a refused printing changes its room, that is told.
+// of the trits to 3. The answer is what the check of the tables answers. Every function on tables has to refuse what the check refuses
+// (`refusals`), and rows one word short of good ones; printing and the lookup of I/O have to take what the check takes. The text is also
+// read in work space one word short. Where an answer is another, that is told.
 use crate::numbers::number;
+use crate::refusals::tell_refusals;
 use crate::rooms::accepted;
 use crate::rooms::byte_at;
-use crate::rooms::kept;
+use crate::rooms::is_at_front;
+use crate::rooms::lent;
 use crate::tables::lent_rows;
 use crate::tables::lent_strings;
 use crate::tables::lent_trits;
 use crate::tables::lent_work;
+use crate::tables::short_work;
 use crate::tables::text_room;
 use crate::telling::tell_unless;
 use checking::check_tables;
 use checking::lookup_io;
+use ground::Place;
 use ground::Refusal;
 use libc::STDOUT_FILENO;
 use netlist::Checked;
@@ -80,29 +85,6 @@ fn alter(alterations: &[u8], rows: &mut [u32], strings: &mut [u8], trits: &mut [
     }
 }
 
-fn same_refusal(g: Refusal, h: Refusal) -> bool {
-    if g.number == h.number {
-        let place = g.place;
-        let other = h.place;
-        return place.at == other.at;
-    }
-    false
-}
-
-fn print_refuses(r: Printed, g: Refusal) -> bool {
-    match r {
-        Printed::Length(_n) => false,
-        Printed::Refused(h) => same_refusal(g, h),
-    }
-}
-
-fn lookup_refuses(r: Found, g: Refusal) -> bool {
-    match r {
-        Found::Row(_i, _w) => false,
-        Found::Refused(h) => same_refusal(g, h),
-    }
-}
-
 fn prints(r: Printed) -> bool {
     match r {
         Printed::Length(_n) => true,
@@ -119,13 +101,17 @@ fn looks_up(r: Found) -> bool {
 }
 
 fn tell_bad(g: Refusal, rows: &[u32], strings: &[u8], trits: &[u8]) {
-    let mut room = [7u8; 65536];
     tell_refused(g);
-    let r = print_text(rows, strings, trits, &mut room);
-    tell_unless(print_refuses(r, g), b" (printing answers otherwise)");
-    tell_unless(kept(&room, 0), b" (printing changes the room)");
-    let f = lookup_io(rows, strings, trits, b"a");
-    tell_unless(lookup_refuses(f, g), b" (the lookup answers otherwise)");
+    tell_refusals(g, rows, strings, trits);
+}
+
+// Rows one word short are refused 1 at 0.
+fn tell_short(rows: &[u32], strings: &[u8], trits: &[u8]) {
+    if 26306 <= rows.len() {
+        let place = Place { at: 0 };
+        let g = Refusal { number: 1, place };
+        tell_refusals(g, &rows[0..26306], strings, trits);
+    }
 }
 
 fn tell_good(rows: &[u32], strings: &[u8], trits: &[u8]) {
@@ -135,6 +121,7 @@ fn tell_good(rows: &[u32], strings: &[u8], trits: &[u8]) {
     tell_unless(prints(r), b" (not printed)");
     let f = lookup_io(rows, strings, trits, b"a");
     tell_unless(looks_up(f), b" (not looked up)");
+    tell_short(rows, strings, trits);
 }
 
 fn tell_check(rows: &[u32], strings: &[u8], trits: &[u8]) {
@@ -143,6 +130,25 @@ fn tell_check(rows: &[u32], strings: &[u8], trits: &[u8]) {
         Checked::Refused(g) => tell_bad(g, rows, strings, trits),
         Checked::Good => tell_good(rows, strings, trits),
     }
+}
+
+fn is_refused(r: Read, number: u8) -> bool {
+    match r {
+        Read::Refused(g) => is_at_front(g, number),
+        Read::Accepted => false,
+    }
+}
+
+// Reading in work space one word short is refused 1 at 0, and nothing is written.
+fn tell_narrow(text: &[u8]) {
+    let mut rows = lent_rows();
+    let mut strings = lent_strings();
+    let mut trits = lent_trits();
+    let mut work = short_work();
+    let r = read_text(text, &mut rows, &mut strings, &mut trits, &mut work);
+    tell_unless(is_refused(r, 1), b" (read in short work space)");
+    tell_unless(lent(&rows), b" (rows beside short work space are changed)");
+    tell_unless(lent(&work), b" (short work space is changed)");
 }
 
 fn tell_altered(alterations: &[u8], text: &[u8]) {
@@ -162,5 +168,6 @@ pub(crate) fn tell_line(line: &[u8]) {
     if bar < line.len() {
         let n = put_text(&line[bar + 1..line.len()], &mut room);
         tell_altered(&line[0..bar], &room[0..n]);
+        tell_narrow(&room[0..n]);
     }
 }

@@ -11,6 +11,7 @@ mod namings;
 mod numbers;
 mod printings;
 mod readings;
+mod refusals;
 mod rooms;
 mod runs;
 mod tables;

@@ -48,6 +48,13 @@ pub(crate) fn lent_work() -> [u32; 132609]
     [7; 132609]
 }
 
+// One word shorter than need be.
+pub(crate) fn short_work() -> [u32; 132607]
+    ensures { λ r. ⌜ 132607 ≡ length r ⌝ }
+{
+    [7; 132607]
+}
+
 // Room for a text, or for a list.
 pub(crate) fn text_room() -> [u8; 70000]
     ensures { λ r. ⌜ 70000 ≡ length r ⌝ }

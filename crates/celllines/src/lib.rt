@@ -21,9 +21,9 @@ use kinds::operands_of;
 use operands::put_operand;
 use quotes::put_quoted;
 use references::put_option;
+use words::wide;
 use writing::room::put;
 use writing::room::put_all;
-use writing::room::wide;
 
 // A kind's number as a byte: 0, which no kind has, where it is none.
 fn kind_of(x: u32) -> u8

@@ -18,6 +18,7 @@ use Rattle.netlist.specs.Netlist.{Run}
 use Rattle.netlist.specs.Runs.{falling, knownBits, runBits}
 use Rattle.netlist.specs.Tables.{Tables}
 use Rattle.netlist.specs.View.{runIn, runsIn}
+use Rattle.netlist.proofs.Runs.{runs-at, runs-length}
 use Rattle.cells.specs.Operands.{bitFrom, bitsFrom}
 use Rattle.cells.specs.Held.{holding, heldRuns, heldBits, runFrom, rising}
 
@@ -36,19 +37,6 @@ part-cut {A} s m n p h = cut (drop s p) (h ∙ rw length-drop)
         (λ t. let q : length l ≤ n = omega (arith, leb-false n (length l) t) in let r : length l ≤ m = omega arith in take-all m l r ∙ sym (take-all n l q))
 
 -- THE TABLE OF RUNS
-
-pub runs-at : (T : Tables) (n i : ℕ) (rows : List ℕ) → i < n → drop i (runsIn T n rows) ≡ runIn T (drop (i * 3) rows) ∷ drop (i + 1) (runsIn T n rows)
-unfolding runsIn
-runs-at T zero i rows h = absurd (omega arith)
-runs-at T (suc n) zero rows h = refl
-runs-at T (suc n) (suc i) rows h =
-    let e : suc i * 3 ≡ 3 + i * 3 = omega arith in
-    rw (e, add-one) (runs-at T n i (drop 3 rows) (omega arith) ∙ rw (drop-drop (i * 3) 3 rows, add-one))
-
-pub runs-length : (T : Tables) (n : ℕ) (rows : List ℕ) → length (runsIn T n rows) ≡ n
-unfolding runsIn
-runs-length T zero rows = refl
-runs-length T (suc n) rows = ap suc (runs-length T n (drop 3 rows))
 
 -- A CONSTANT
 

@@ -9,19 +9,9 @@ use Rattle.ground.specs.Lists.{joined, total}
 use Rattle.trit.specs.Trit.{Trits}
 use Rattle.netlist.specs.Netlist.{Run, const, piece, operandWidth}
 use Rattle.netlist.specs.Runs.{Bit, known, bit, falling, knownBits, runBits, operandBits}
+use Rattle.netlist.proofs.Runs.{length-falling, length-known}
 use Rattle.cells.specs.Operands.{bitFrom, bitsFrom}
 use Rattle.cells.proofs.Running.{at, readsOf, Early}
-
--- an operand is as wide as its runs
-length-known : (ts : List ℕ) → length (knownBits ts) ≡ length ts
-unfolding knownBits
-length-known [] = refl
-length-known (t ∷ ts) = ap suc (length-known ts)
-
-length-falling : (row o w : ℕ) → length (falling row o w) ≡ w
-unfolding falling
-length-falling row o zero = refl
-length-falling row o (suc w) = ap suc (length-falling row o w)
 
 pub length-operand : (rs : List Run) → length (operandBits rs) ≡ operandWidth rs
 unfolding joined total

@@ -1,5 +1,5 @@
 // adc: a sum bit for each place, and the last carry on top. An X goes as far as the carry rule takes it, and no further.
-use super::lent::least;
+use words::least;
 ghost use mathlib.Core.Path.{_≡_};
 ghost use lib.Seq.{sets};
 ghost use Rattle.trit.specs.Wide.{adcBits};

@@ -1,6 +1,6 @@
 // Comparisons: eq, ult, slt, one bit each.
-use super::lent::least;
 use super::lent::put_bit;
+use words::least;
 ghost use mathlib.Core.Path.{_≡_};
 ghost use mathlib.Core.List.{[], _∷_};
 ghost use lib.Seq.{sets};

@@ -1,5 +1,5 @@
 // Gates, bit by bit: not, and, or, xor.
-use super::lent::least;
+use words::least;
 ghost use mathlib.Core.Path.{_≡_};
 ghost use lib.Seq.{sets};
 ghost use Rattle.trit.specs.Trit.{andOf, orOf, xorOf};

@@ -1,18 +1,10 @@
 // Lent slices: the shorter of two lengths, a copy, one bit put at the front.
+use words::least;
 ghost use mathlib.Core.Path.{_≡_};
 ghost use mathlib.Core.List.{[], _∷_};
 ghost use Prim.Native.Nat.{min};
 ghost use lib.ListN.{replicate};
 ghost use lib.Seq.{sets};
-
-pub(crate) fn least(a: usize, b: usize) -> usize
-    ensures { λ r. ⌜ r ≡ min a b ⌝ }
-{
-    if a < b {
-        return a;
-    }
-    b
-}
 
 // The bits as they are: buf and output.
 pub(crate) fn copy(a: &[u8], out: &mut [u8])

@@ -13,7 +13,7 @@ use borrow.Author.Tests.{eq-eqb, ne-eqb, leb-true, le-leb}
 use Rattle.ground.specs.Choice.{pick}
 use Rattle.ground.specs.Lists.{every, allOf, joined}
 use Rattle.ground.specs.Regions.{blank, fits, part}
-use Rattle.ground.proofs.Bools.{bool-cases, never-both, and-true, true-and, fact, facts, every-first, every-more}
+use Rattle.ground.proofs.Bools.{bool-cases, never-both, and-true, true-and, fact, facts, every-first, every-more, some-back}
 use Rattle.ground.proofs.Rest.{rest-rest}
 use Rattle.ground.proofs.Regions.{part-length}
 use Rattle.kinds.specs.Kinds.{wide}
@@ -54,13 +54,6 @@ shortIo i = shortString (i .name)
 
 next-row : (i : ℕ) (rows : List ℕ) → drop 3 (drop (i * 3) rows) ≡ drop ((i + 1) * 3) rows
 next-row i rows = let e : i * 3 + 3 ≡ (i + 1) * 3 = omega arith in rest-rest rows (i * 3) 3 ∙ ap (λ (k : ℕ). drop k rows) e
-
-some-back : (n : ℕ) → not (eqb n 0) ≡ true → leb 1 n ≡ true
-some-back n h = go (ℕ-discrete n 0)
-  where
-    go : Dec (n ≡ 0) → leb 1 n ≡ true
-    go (yes e) = never-both (rw (eq-eqb n 0 e) at h) refl
-    go (no e) = le-leb 1 n (omega arith)
 
 pub record Laid (T : Tables) (i s n x : ℕ) : Type 0 where
   pub rows : fits (ioRows s (iosFrom T i n)) (drop (i * 3) (T .ios)) ≡ true

@@ -16,6 +16,7 @@ use Rattle.ground.specs.Text.{same}
 use Rattle.ground.proofs.Bools.{bool-cases, and-true}
 use Rattle.ground.proofs.Regions.{part-length}
 use Rattle.ground.proofs.Rest.{rest-cons, rest-end, rest-rest}
+use Rattle.ground.proofs.Same.{same-turned as same-comm}
 use Rattle.netlist.specs.Rules.{taken, distinct}
 use Rattle.netlist.specs.View.{word}
 use Rattle.checkmeta.specs.Walk.{lies}
@@ -30,38 +31,6 @@ use Rattle.checking.specs.Names.{ioName, cellName, ioNamesIn, cellNamesI
 use Rattle.checking.specs.Walk.{ioGood, iosWalk}
 use Rattle.checking.specs.declared.ios.Upto.{Upto}
 use Rattle.checking.specs.declared.ios.Upto.the-variants.{Wrong, At}
-
--- TWO STRINGS
-module _ (a b : List ℕ) (i : ℕ) where
-  pub same-on : i < length a → i < length b → getD a i 0 ≡ getD b i 0 → same (drop (i + 1) a) (drop (i + 1) b) ≡ same (drop i a) (drop i b)
-  unfolding same
-  same-on h k e = sym (rw (rest-cons a i h, rest-cons b i k, eq-eqb (getD a i 0) (getD b i 0) e, same))
-
-  pub same-off : i < length a → i < length b → (getD a i 0 ≡ getD b i 0 → ⊥) → false ≡ same (drop i a) (drop i b)
-  unfolding same
-  same-off h k e = sym (rw (rest-cons a i h, rest-cons b i k, ne-eqb (getD a i 0) (getD b i 0) e, same))
-
-  pub same-end : length a ≤ i → length b ≤ i → true ≡ same (drop i a) (drop i b)
-  unfolding same
-  same-end h k = rw (rest-end a i h, rest-end b i k)
-
-pub same-long : (a b : List ℕ) → (length a ≡ length b → ⊥) → false ≡ same a b
-unfolding same
-same-long [] [] h = absurd (h refl)
-same-long [] (y ∷ b) h = refl
-same-long (x ∷ a) [] h = refl
-same-long (x ∷ a) (y ∷ b) h = bool-cases (eqb x y) (λ e. rw (e, same) (same-long a b (λ k. h (ap suc k)))) (λ e. rw (e, same))
-
-pub same-comm : (a b : List ℕ) → same a b ≡ same b a
-unfolding same
-same-comm [] [] = refl
-same-comm [] (y ∷ b) = refl
-same-comm (x ∷ a) [] = refl
-same-comm (x ∷ a) (y ∷ b) = go (ℕ-discrete x y) (same-comm a b)
-  where
-    go : Dec (x ≡ y) → same a b ≡ same b a → same (x ∷ a) (y ∷ b) ≡ same (y ∷ b) (x ∷ a)
-    go (yes e) s = rw (eq-eqb x y e, eq-eqb y x (sym e), same) s
-    go (no e) s = rw (ne-eqb x y e, ne-eqb y x (λ k. e (sym k)), same)
 
 -- ROWS of w words
 pub next-row : (w i : ℕ) (rows : List ℕ) → i * w + w ≡ (i + 1) * w → drop w (drop (i * w) rows) ≡ drop ((i + 1) * w) rows

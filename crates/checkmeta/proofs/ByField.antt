@@ -10,7 +10,7 @@ use lib.ListN.{length}
 use borrow.Author.Tests.{eqb-true, eqb-false, leb-true, le-leb, eq-eqb, ne-eqb}
 use Rattle.ground.specs.Choice.{pick}
 use Rattle.ground.specs.Lists.{every, allOf}
-use Rattle.ground.proofs.Bools.{bool-cases, never-both, and-true, true-and, fact, facts, not-of-false}
+use Rattle.ground.proofs.Bools.{bool-cases, never-both, and-true, true-and, fact, facts, not-of-false, some-back}
 use Rattle.kinds.specs.Kinds.{wide}
 use Rattle.netlist.specs.Netlist.{Meta, setMeta, sourceMeta, indexedMeta, identMeta, bitsMeta, integerMeta, stringMeta, isScope}
 use Rattle.netlist.specs.Rules.{hasName, badRange, refers, mayRefer, isMember, isSource, isByte, isTrit, isNumber, shape, ranges, references, complete, attrWidth, metaSound, shortString}
@@ -28,13 +28,6 @@ facts-has false q e p r = p
 
 some : (n : ℕ) → leb 1 n ≡ true → not (eqb n 0) ≡ true
 some n h = let k = leb-true 1 n h in rw (ne-eqb n 0 (λ e. omega arith))
-
-some-back : (n : ℕ) → not (eqb n 0) ≡ true → leb 1 n ≡ true
-some-back n h = go (ℕ-discrete n 0)
-  where
-    go : Dec (n ≡ 0) → leb 1 n ≡ true
-    go (yes e) = never-both (rw (eq-eqb n 0 e) at h) refl
-    go (no e) = le-leb 1 n (omega arith)
 
 zero-short : (n : ℕ) → eqb n 0 ≡ true → leb n 255 ≡ true
 zero-short n e = let k = eqb-true n 0 e in le-leb n 255 (omega arith)

@@ -11,6 +11,7 @@ use Rattle.ground.specs.Lists.{every, joined}
 use Rattle.ground.specs.Regions.{pad, part, zeros}
 use Rattle.ground.proofs.Regions.{length-pad, pad-put}
 use Rattle.ground.proofs.Writes.{sets-append}
+use Rattle.ground.proofs.Counts.{length-mapped}
 use Rattle.netlist.specs.Netlist.{Meta, Io, Cell, metaStrings, stringsOf, membersOf, attrBitsOf, runsOf, runBitsOf}
 use Rattle.netlist.specs.Tables.{metaRows, ioRows, cellRows, runRows, ioStart, cellStart}
 use Rattle.netlist.proofs.Laying.{Roomy, roomy-is}
@@ -19,7 +20,6 @@ use Rattle.saying.specs.Values.{rowRun}
 use Rattle.saying.specs.Rules.{Sofar}
 use Rattle.saying.specs.Notes.{MetaNote, metasSaid, IoNote, iosSaid, CellNote, cellsSaid, Maps}
 use Rattle.settling.specs.Settling.{MetasNoted, MetasSettled, SettlesMetas, ioStrings, IosNoted, IosSettled, SettlesIos, cellStrings, CellsNoted, CellsSettled, SettlesCells}
-use Rattle.settling.proofs.Left.{length-mapped}
 use Rattle.laying.specs.Holding.{Holds}
 use Rattle.noting.specs.Noted.{metasIn, membersIn, iosIn, cellsIn, runsIn, attrTritsIn, runTritsIn, cellMapIn, Noted}
 use Rattle.noting.specs.declared.Tally.{Tally}

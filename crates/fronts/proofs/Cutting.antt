@@ -9,6 +9,7 @@ use lib.ListN.{length, getD}
 use borrow.Author.Tests.{eqb-true, eqb-false, eq-eqb, ne-eqb, leb-true, ltb-true}
 use Rattle.ground.specs.Lists.{every, joined}
 use Rattle.ground.proofs.Bools.{bool-cases, never-both, and-true, every-first, fact}
+use Rattle.ground.proofs.Counts.{length-mapped}
 use Rattle.netlist.specs.Netlist.{Run, const, piece, Cell, Netlist}
 use Rattle.netlist.specs.Runs.{joins, longest, runBits, operandBits, cut}
 use Rattle.netlist.specs.Rules.{isTrit, resolves, runSound, operandSound, cellSound, widthsOf, valid}
@@ -17,7 +18,7 @@ use Rattle.laying.proofs.Melding.{meld, cut-append, cut-falling, cut-known}
 use Rattle.numbering.specs.Numbers.{numbersFrom}
 use Rattle.saying.specs.Values.{rowOf, rowRun, rowCell}
 use Rattle.fronts.specs.Fronts.{numberRun, numberCell}
-use Rattle.fronts.proofs.Rows.{length-mapped, number-row}
+use Rattle.fronts.proofs.Rows.{number-row}
 
 -- LONGEST RUNS, none of them empty, are cut again as they are
 abbrev filled : Run → Bool

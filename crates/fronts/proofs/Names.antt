@@ -8,20 +8,12 @@ use lib.Dec.{eqb}
 use borrow.Author.Tests.{eqb-true, eqb-false, eq-eqb, ne-eqb}
 use Rattle.ground.specs.Text.{same}
 use Rattle.ground.proofs.Bools.{bool-cases, never-both}
+use Rattle.ground.proofs.Same.{same-turned}
 use Rattle.kinds.specs.Kinds.{Kind, kindAt, inputKind, outputKind}
 use Rattle.kinds.proofs.Widths.{picked}
 use Rattle.netlist.specs.Netlist.{Cell}
 use Rattle.netlist.specs.Rules.{taken, distinct, namesAs}
 use Rattle.fronts.specs.Fronts.{numberCell}
-
-same-turned : (a b : List ℕ) → same a b ≡ same b a
-unfolding same
-same-turned [] [] = refl
-same-turned [] (y ∷ ys) = refl
-same-turned (x ∷ xs) [] = refl
-same-turned (x ∷ xs) (y ∷ ys) = bool-cases (eqb x y)
-    (λ e. let f : eqb y x ≡ true = eq-eqb y x (sym (eqb-true x y e)) in rw (e, same, f, same) (same-turned xs ys))
-    (λ e. let f : eqb y x ≡ false = ne-eqb y x (λ z. eqb-false x y e (sym z)) in rw (e, same, f, same) refl)
 
 -- a name that is not among names is none of them
 not-taken : (n m : List ℕ) (front back : List (List ℕ)) → taken n (front ++ (m ∷ back)) ≡ false → same n m ≡ false

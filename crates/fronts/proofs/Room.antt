@@ -10,31 +10,12 @@ use borrow.Author.Tests.{le-leb}
 use Rattle.ground.specs.Choice.{pick}
 use Rattle.ground.specs.Lists.{every, allOf, total, joined}
 use Rattle.ground.proofs.Bools.{facts, every-first, every-more}
+use Rattle.ground.proofs.Counts.{length-mapped}
 use Rattle.kinds.specs.Kinds.{outputKind}
 use Rattle.netlist.specs.Netlist.{Run, const, piece, Meta, Io, Cell, Netlist, operandWidth, metaStrings, cellRuns, stringsOf}
 use Rattle.netlist.specs.Rules.{outputBits, shortString, roomy}
-use Rattle.netlist.proofs.Laying.{Roomy, roomy-is}
+use Rattle.netlist.proofs.Laying.{Roomy, roomy-is, is-roomy, strings-long}
 use Rattle.fronts.specs.Fronts.{numberRun, numberCell}
-use Rattle.fronts.proofs.Rows.{length-mapped}
-
-no-facts : allOf [] ≡ true
-unfolding allOf
-no-facts = refl
-
-is-roomy : (N : Netlist) → Roomy N → roomy N ≡ true
-unfolding roomy
-is-roomy N r =
-    facts _ _ (le-leb _ _ (r .cells))
-    (facts _ _ (le-leb _ _ (r .bits))
-    (facts _ _ (le-leb _ _ (r .outputs))
-    (facts _ _ (le-leb _ _ (r .runs))
-    (facts _ _ (le-leb _ _ (r .metas))
-    (facts _ _ (le-leb _ _ (r .members))
-    (facts _ _ (le-leb _ _ (r .ios))
-    (facts _ _ (r .metaStrings)
-    (facts _ _ (r .ioStrings)
-    (facts _ _ (r .cellStrings)
-    (facts _ _ (le-leb _ _ (r .strings)) no-facts))))))))))
 
 -- FRONTS: what is counted and asked of a list zs that begins with xs
 module _ {A : Type 0} where
@@ -111,12 +92,6 @@ runs-numbered ns c =
       length-mapped f (c .b),
       length-mapped f (c .c),
     )
-
-strings-long : (N : Netlist) → length (stringsOf N) ≡ length (metaStrings (N .metas)) + length (joined (λ (i : Io). i .name) (N .ios)) + length (joined (λ (c : Cell). c .name) (N .cells))
-strings-long N =
-    let is = joined (λ (i : Io). i .name) (N .ios) in
-    let cs = joined (λ (c : Cell). c .name) (N .cells) in
-    omega (arith, length-append (metaStrings (N .metas)) (is ++ cs), length-append is cs)
 
 -- A FRONT of a netlist with room has room
 module _ (N : Netlist) (room : roomy N ≡ true) (ns : List ℕ) where

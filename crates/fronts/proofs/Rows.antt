@@ -10,6 +10,7 @@ use lib.ListN.{length, getD}
 use borrow.Author.Tests.{eq-eqb, ne-eqb}
 use Rattle.ground.specs.Choice.{pick}
 use Rattle.ground.specs.Lists.{total, upFrom}
+use Rattle.ground.proofs.Counts.{length-mapped, length-up}
 use Rattle.netlist.specs.Netlist.{Meta, Cell, Netlist}
 use Rattle.netlist.specs.Rules.{roomy}
 use Rattle.netlist.proofs.Laying.{roomy-is}
@@ -56,11 +57,6 @@ up-from top j (suc n) k h e = more h (up-from top (suc k) n (k + 1) (omega arith
 up-rising : (n : ℕ) → Rising n 0 (upFrom 0 n)
 up-rising n = up-from n 0 n 0 (omega arith) (omega arith)
 
-length-up : (n k : ℕ) → length (upFrom k n) ≡ n
-unfolding upFrom
-length-up zero k = refl
-length-up (suc n) k = ap suc (length-up n (k + 1))
-
 at-up : (n k i : ℕ) → i < n → getD (upFrom k n) i 0 ≡ k + i
 unfolding upFrom
 at-up zero k i l = absurd (omega arith)
@@ -87,11 +83,6 @@ more-up (suc n) k = let e : k + suc n ≡ k + 1 + n = omega arith in rw e (ap (�
 -- the numbers of metadata with the next one
 pub up-more : (n : ℕ) → upFrom 0 n ++ (n ∷ []) ≡ upFrom 0 (n + 1)
 up-more n = let e : 0 + n ≡ n = omega arith in rw (add-one n) (rw e at (more-up n 0))
-
--- mapped elements are as many
-pub length-mapped : {A B : Type 0} (f : A → B) (xs : List A) → length (map f xs) ≡ length xs
-length-mapped f [] = refl
-length-mapped f (x ∷ xs) = ap suc (length-mapped f xs)
 
 -- metadata numbered so is numbered by its rows
 pub rowed : (so : Sofar) → so .metaNumbers ≡ upFrom 0 (length (so .netlist .metas)) → Rowed so (map (λ (m : Meta). m .kind) (so .netlist .metas))

@@ -1,3 +1,2 @@
-pub mod Told
 pub mod Seen
 pub mod Tables

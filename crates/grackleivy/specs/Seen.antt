@@ -4,8 +4,8 @@ use mathlib.Core.List.{List}
 use Rattle.reading.specs.Outcome.{Outcome}
 use Rattle.reading.specs.declared.Read.{Read}
 use Rattle.reading.specs.declared.Read.the-variants as read
-use Rattle.grackleivy.specs.Told.{toldOf}
-use Rattle.grackleivy.specs.declared.Told.{Told}
+use Rattle.textlib.specs.Told.{toldOf}
+use Rattle.textlib.specs.declared.Told.{Told}
 
 abbrev pub toldRead : Read → Told
 toldRead read.Accepted = toldOf 0 0

@@ -11,8 +11,8 @@ use Rattle.printing.specs.declared.Printed.the-variants as printed
 use Rattle.naming.specs.Names as naming
 use Rattle.naming.specs.declared.Named.{Named}
 use Rattle.naming.specs.declared.Named.the-variants as named
-use Rattle.grackleivy.specs.Told.{toldOf}
-use Rattle.grackleivy.specs.declared.Told.{Told}
+use Rattle.textlib.specs.Told.{toldOf}
+use Rattle.textlib.specs.declared.Told.{Told}
 use Rattle.grackleivy.specs.declared.Wrote.{Wrote}
 use Rattle.grackleivy.specs.declared.Pad.{Pad}
 

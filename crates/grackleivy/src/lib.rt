@@ -6,10 +6,7 @@ use benchlib::bench_run;
 use benchlib::bench_translate;
 use checking::check_tables;
 use checking::lookup_io;
-use ground::Place;
 use ground::Refusal;
-use lexis::Reader;
-use lexis::Step;
 use naming::Named;
 use naming::full_name;
 use netlist::Checked;
@@ -18,13 +15,13 @@ use printing::Printed;
 use printing::print_text;
 use reading::Read;
 use reading::read_text;
-use scanning::Whole;
-use scanning::scan::whole;
-use signs::classes::classes;
+use textlib::Counted;
+use textlib::Told;
+use textlib::accepted;
+use textlib::text_tokens;
+use textlib::text_whole;
+use textlib::told_by;
 ghost use mathlib.Core.Path.{_≡_};
-ghost use Prim.Native.Nat.{_+_, _≤_};
-ghost use lib.ListN.{length};
-ghost use Rattle.signs.specs.Bytes.{table};
 ghost use Rattle.scanning.specs.Whole.{wholeOf};
 ghost use Rattle.netlist.specs.Good.{checkOf, lookupOf};
 ghost use Rattle.reading.specs.Outcome.{readOf};
@@ -34,24 +31,9 @@ ghost use Rattle.evaluating.specs.Outcome.{evaluateOf};
 ghost use Rattle.translating.specs.Outcome.{translateOf};
 ghost use Rattle.loadlist.specs.Run.{runOf};
 ghost use Rattle.benchlib.specs.Logic.{after, afterEvaluation, afterTranslation, afterRun};
-ghost use Rattle.grackleivy.specs.Told.{toldOf, told, counted, refusedAt, movedBy, tokensFrom, tokensOf};
+ghost use Rattle.textlib.specs.Told.{toldOf, told, tokensOf};
 ghost use Rattle.grackleivy.specs.Seen.{toldRead, seen, seenOf};
 ghost use Rattle.grackleivy.specs.Tables.{toldCheck, wroteOf, toldPrint, toldName, filled, printedOf, namedOf, padOf, toldPad};
-
-// A refusal number with its place; 0 and 0 where nothing is refused.
-#[repr(C)]
-pub struct Told {
-    pub number: u32,
-    pub place: u64,
-}
-
-// How many tokens a text has, or why it is refused.
-#[repr(C)]
-pub struct Counted {
-    pub tokens: u64,
-    pub number: u32,
-    pub place: u64,
-}
 
 // How many bytes of the room an answer takes, or why it is refused.
 #[repr(C)]
@@ -70,100 +52,12 @@ pub struct Pad {
     pub place: u64,
 }
 
-// What a token does to a count: on to a place, the text's end, or a refusal.
-pub enum Moved {
-    On(usize),
-    Ended,
-    Stopped(Refusal),
-}
-
-fn counted_to(tokens: u64) -> Counted
-    ensures { λ r. ⌜ r ≡ counted tokens ⌝ }
-{
-    Counted {
-        tokens,
-        number: 0,
-        place: 0,
-    }
-}
-
-fn refused_at(g: Refusal) -> Counted
-    ensures { λ r. ⌜ r ≡ refusedAt g ⌝ }
-{
-    Counted {
-        tokens: 0,
-        number: g.number as u32,
-        place: g.place.at as u64,
-    }
-}
-
-fn moved_by(step: Step) -> Moved
-    ensures { λ r. ⌜ r ≡ movedBy step ⌝ }
-{
-    match step {
-        Step::Refused(g) => Moved::Stopped(g),
-        Step::Took(token, reader) => {
-            if token.sort == 1 {
-                return Moved::Ended;
-            }
-            let at = reader.next.at;
-            Moved::On(at)
-        }
-    }
-}
-
-fn count_from(t: &[u8; 256], text: &[u8]) -> Counted
-    requires { ⌜ (now t ≡ table) × (length (now text) ≤ 65536) ⌝ }
-    ensures { λ r. ⌜ r ≡ tokensFrom (length (now (text .entry)) + 1) (now (text .entry)) 0 0 ⌝ }
-{
-    let mut left = text.len() + 1;
-    let mut tokens: u64 = 0;
-    let mut at: usize = 0;
-    while 0 < left {
-        let reader = Reader { next: Place { at } };
-        match moved_by(reader.next_with(t, text)) {
-            Moved::Stopped(g) => {
-                return refused_at(g);
-            }
-            Moved::Ended => {
-                return counted_to(tokens);
-            }
-            Moved::On(k) => {
-                at = k;
-            }
-        }
-        tokens += 1;
-        left -= 1;
-    }
-    counted_to(tokens)
-}
-
-fn accepted() -> Told
-    ensures { λ r. ⌜ r ≡ toldOf 0 0 ⌝ }
-{
-    Told {
-        number: 0,
-        place: 0,
-    }
-}
-
-fn told_by(g: Refusal) -> Told
-    ensures { λ r. ⌜ r ≡ toldOf (g .number) (g .place .at) ⌝ }
-{
-    let number = g.number as u32;
-    let place = g.place.at as u64;
-    Told { number, place }
-}
-
 // The text as a whole: refusal 2, 3 or 4 with its place.
 #[no_mangle]
 pub extern "C" fn grackle_whole(text: &[u8]) -> Told
     ensures { λ r. ⌜ r ≡ told (wholeOf (now (text .entry))) ⌝ }
 {
-    match whole(text) {
-        Whole::Sound => accepted(),
-        Whole::Unsound(g) => told_by(g),
-    }
+    text_whole(text)
 }
 
 // The tokens of a text that is sound as a whole, line ends counted: how many, or the first refusal 2 to 6 with its place.
@@ -171,13 +65,7 @@ pub extern "C" fn grackle_whole(text: &[u8]) -> Told
 pub extern "C" fn grackle_tokens(text: &[u8]) -> Counted
     ensures { λ r. ⌜ r ≡ tokensOf (now (text .entry)) ⌝ }
 {
-    match whole(text) {
-        Whole::Unsound(g) => refused_at(g),
-        Whole::Sound => {
-            let t = classes();
-            count_from(&t, text)
-        }
-    }
+    text_tokens(text)
 }
 
 fn tell_read(r: Read) -> Told

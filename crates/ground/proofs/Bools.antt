@@ -5,8 +5,9 @@ use mathlib.Core.Logic.{_⊎_, inl, inr}
 use mathlib.Core.List.{List, [], _∷_}
 use Prim.Native.Nat.{ℕ, zero, suc, _<_}
 use native.Mathlib.Omega.{arith}
-use lib.Dec.{T}
+use lib.Dec.{T, eqb, leb}
 use lib.ListN.{length, getD}
+use borrow.Author.Tests.{le-leb, eqb-false}
 use Rattle.ground.specs.Lists.{every, allOf}
 
 -- a proof by the two values of a test, each with what it tells
@@ -94,3 +95,14 @@ every-first p x xs h = bool-cases (p x) (λ e. (e, rw (e, every) at h)) (λ e. n
 pub every-more : {A : Type 0} (p : A → Bool) (x : A) (xs : List A) → p x ≡ true → every p xs ≡ true → every p (x ∷ xs) ≡ true
 unfolding every
 every-more p x xs e h = rw (e, every) h
+
+-- of no facts all hold
+pub no-facts : allOf [] ≡ true
+unfolding allOf
+no-facts = refl
+
+-- a number that is not 0 is 1 at least
+pub some-back : (n : ℕ) → not (eqb n 0) ≡ true → leb 1 n ≡ true
+some-back n h = bool-cases (eqb n 0)
+    (λ e. never-both (rw e at h) refl)
+    (λ e. le-leb 1 n (let f = eqb-false n 0 e in omega arith))

@@ -1,9 +1,11 @@
 pub mod Bools
+pub mod Counts
 pub mod Families
 pub mod Lent
 pub mod Outcome
 pub mod Regions
 pub mod Rest
+pub mod Same
 pub mod Tables
 pub mod Tests
 pub mod Writes

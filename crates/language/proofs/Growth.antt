@@ -9,9 +9,8 @@ use Rattle.ground.specs.Lists.{every, total, joined}
 use Rattle.form.specs.declared.Declared.{Declared}
 use Rattle.netlist.specs.Netlist.{Meta, Io, Cell, Netlist, metaStrings, cellRuns, stringsOf}
 use Rattle.netlist.specs.Rules.{outputBits, shortString, roomy}
-use Rattle.netlist.proofs.Laying.{roomy-is}
+use Rattle.netlist.proofs.Laying.{roomy-is, is-roomy, strings-long}
 use Rattle.saying.specs.Rules.{Sofar, Said, metadata, pad, cell, saidBy, added}
-use Rattle.noting.proofs.Limits.{is-roomy}
 use Rattle.fronts.proofs.Room.{every-split, total-append}
 use Rattle.language.specs.Language.{sayFrom}
 
@@ -86,14 +85,7 @@ grown-all text so (d ∷ ds) =
     let s = saidBy text so (d .decl) in
     grown-then (grown-one so (d .index) s) (grown-all text (added so (d .index) s) ds)
 
--- ROOM
-strings-long : (N : Netlist) → length (stringsOf N) ≡ length (metaStrings (N .metas)) + length (joined (λ (i : Io). i .name) (N .ios)) + length (joined (λ (c : Cell). c .name) (N .cells))
-strings-long N =
-    let is = joined (λ (i : Io). i .name) (N .ios) in
-    let cs = joined (λ (c : Cell). c .name) (N .cells) in
-    omega (arith, length-append (metaStrings (N .metas)) (is ++ cs), length-append is cs)
-
--- what has room with more behind it has room
+-- ROOM: what has room with more behind it has room
 pub grown-roomy : {so more : Sofar} → Grown so more → roomy (more .netlist) ≡ true → roomy (so .netlist) ≡ true
 grown-roomy {so} {more} g room =
     let M = so .netlist in

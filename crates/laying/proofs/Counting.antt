@@ -20,7 +20,7 @@ use Rattle.laying.proofs.Melding.{cut-trits}
 use Rattle.laying.proofs.Turning.{bitsOf, bits-wide}
 
 -- an operand has no more trits than it is wide
-operand-trits : (text : List ℕ) (o : Operand) → length (runBitsOf (operandRuns text o)) ≤ widths (partsAt text o)
+pub operand-trits : (text : List ℕ) (o : Operand) → length (runBitsOf (operandRuns text o)) ≤ widths (partsAt text o)
 unfolding operandRuns
 operand-trits text o = let t = cut-trits (bitsOf text (partsAt text o)) in let w = bits-wide text (operand-in text o) in omega arith
 

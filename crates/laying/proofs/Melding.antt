@@ -157,17 +157,6 @@ module _ (done new : List Bit) (q : Run) (one : cut new ≡ q ∷ []) where
   unfolding meld
   cut-first e = cut-append done new ∙ rw (one, e)
 
--- WIDTHS
-pub length-falling : (row o w : ℕ) → length (falling row o w) ≡ w
-unfolding falling
-length-falling row o zero = refl
-length-falling row o (suc w) = ap suc (length-falling row o w)
-
-pub length-known : (ts : List ℕ) → length (knownBits ts) ≡ length ts
-unfolding knownBits
-length-known [] = refl
-length-known (t ∷ ts) = ap suc (length-known ts)
-
 with-wide : (b : Bit) (rs : List Run) → operandWidth (runsWith b rs) ≡ suc (operandWidth rs)
 unfolding total
 with-wide (known t) [] = refl

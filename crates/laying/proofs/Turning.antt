@@ -16,12 +16,13 @@ use Rattle.brackets.proofs.Sums.{widths}
 use Rattle.netlist.specs.Netlist.{Run}
 use Rattle.netlist.specs.Runs.{Bit, cut}
 use Rattle.saying.specs.Values.{tritsIn, baseBits, copies, partBits}
+use Rattle.netlist.proofs.Runs.{length-falling, length-known}
 use Rattle.laying.specs.Growing.{Open, Opened, Grows, BaseIn, PartIn, PartsIn, none, more}
 use Rattle.laying.specs.declared.Laid.{Laid}
 use Rattle.laying.specs.declared.Laying.the-variants as laying
 use Rattle.laying.proofs.Adding.{grows-none}
 use Rattle.constants.proofs.Copying.{trits-long}
-use Rattle.laying.proofs.Melding.{cut-more, length-falling, length-known}
+use Rattle.laying.proofs.Melding.{cut-more}
 
 -- of the bits `whole` those before `rest` are laid
 pub record Partly (rs : List Run) (whole rest : List Bit) (first : ℕ) (runs trits : List ℕ) (so : Laid) : Type 0 where

@@ -10,9 +10,9 @@ ghost use Rattle.lines.specs.Lines.{ioLine, ioLines};
 ghost use Rattle.lines.specs.Pools.{pools};
 use decimals::put_number;
 use quotes::put_quoted;
+use words::wide;
 use writing::room::put;
 use writing::room::put_all;
-use writing::room::wide;
 
 // A line of I/O.
 fn put_io(room: &mut [u8], n: usize, row: &[u32], strings: &[u8]) -> usize

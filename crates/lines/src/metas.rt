@@ -17,9 +17,9 @@ use quotes::put_trits;
 use references::put_option;
 use references::put_reference;
 use references::put_references;
+use words::wide;
 use writing::room::put;
 use writing::room::put_all;
-use writing::room::wide;
 
 // `(#<line> #<column>)`
 fn put_point(room: &mut [u8], n: usize, line: u32, column: u32) -> usize

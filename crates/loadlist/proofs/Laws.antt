@@ -1,7 +1,7 @@
 -- Laws of the definitions at a record of the list: what the code's returns and loops go by.
 use mathlib.Core.Path.{_≡_, sym, _∙_}
 use mathlib.Core.Bool.{true, false, _&&_}
-use mathlib.Core.List.{List}
+use mathlib.Core.List.{List, [], _∷_}
 use Prim.Native.Nat.{ℕ, _+_, _*_, _/_, _<_, _≤_}
 use native.Mathlib.Nat.{add-zero}
 use native.Mathlib.Omega.{arith}
@@ -9,9 +9,10 @@ use lib.Dec.{eqb, leb, ltb}
 use lib.ListN.{length, take, drop, getD, length-take, length-drop}
 use lib.Seq.{getD-drop}
 use borrow.Author.Tests.{lt-ltb, le-ltb, le-leb, lt-leb, leb-true, leb-false, eq-eqb, ne-eqb}
+use Rattle.ground.specs.Lists.{joined}
 use Rattle.ground.proofs.Bools.{bool-cases}
 use Rattle.ground.proofs.Rest.{rest-end}
-use Rattle.loadlist.specs.Records.{rec, recordIn}
+use Rattle.loadlist.specs.Records.{rec, recordIn, listBytes}
 use Rattle.loadlist.specs.declared.Record.{Record}
 use Rattle.loadlist.specs.Check.{isWhole, marked, firstFits, secondFits, fits, goodRecord}
 
@@ -78,3 +79,9 @@ module _ (s : List ℕ) (at : ℕ) where
 
     pub mark-zero : getD s (at + 1) 0 ≡ 0x53 → eqb (getD s (at + 3) 0) 0 ≡ marked (drop at s)
     mark-zero e = simp (getD-drop, add-zero, eq-eqb (getD s at 0) 0x47 first, eq-eqb (getD s (at + 1) 0) 0x53 e)
+
+-- the bytes of records
+pub bytes-long : (rs : List Record) → length (listBytes rs) ≡ 8 * length rs
+unfolding joined
+bytes-long [] = omega arith
+bytes-long (r ∷ rs) = let l = bytes-long rs in omega arith

@@ -16,6 +16,7 @@ use Rattle.ground.proofs.Bools.{bool-cases, never-both, and-true}
 use Rattle.ground.proofs.Regions.{part-length}
 use Rattle.ground.specs.declared.Place.{Place}
 use Rattle.ground.specs.declared.Refusal.{Refusal}
+use Rattle.ground.proofs.Counts.{length-mapped}
 use Rattle.brackets.specs.Parts.{membersAt}
 use Rattle.brackets.specs.declared.Ref.{Ref}
 use Rattle.form.specs.declared.Label.the-variants as label
@@ -34,7 +35,6 @@ use Rattle.asking.specs.declared.Misnaming.the-variants as misnaming
 use Rattle.noting.specs.Rulings.{rulingOf}
 use Rattle.metas.specs.MetaRows.{isMetadata, metaSaid, metaLimits, membersSaid, payloadTrits, tritsSaid, misnamingFor, placeOf}
 use Rattle.noting.specs.declared.Ruling.the-variants as ruling
-use Rattle.noting.proofs.Growing.{length-mapped}
 use Rattle.noting.proofs.Passing.{never-passed, passes, not-false}
 
 -- WHAT IS SAID

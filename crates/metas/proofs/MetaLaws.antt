@@ -17,6 +17,7 @@ use Rattle.ground.proofs.Bools.{bool-cases, every-first}
 use Rattle.ground.proofs.Regions.{part-length}
 use Rattle.ground.proofs.Writes.{sets-append}
 use Rattle.ground.specs.declared.Place.{Place}
+use Rattle.ground.proofs.Counts.{length-mapped}
 use Rattle.signs.specs.Bytes.{tritOf}
 use Rattle.signs.specs.Pieces.{decoded}
 use Rattle.brackets.specs.Parts.{membersAt, membersFrom}
@@ -46,7 +47,6 @@ use Rattle.noting.specs.declared.Tally.{Tally}
 use Rattle.noting.specs.declared.Ruling.the-variants as ruling
 use Rattle.metas.specs.declared.MetaRow.{MetaRow}
 use Rattle.noting.proofs.Flat.{length-put}
-use Rattle.noting.proofs.Growing.{length-mapped}
 use Rattle.noting.proofs.Limits.{meta-fits, meta-full}
 
 -- RULES 11 TO 13

@@ -12,6 +12,7 @@ use Rattle.ground.specs.Lists.{joined}
 use Rattle.ground.specs.Regions.{pad, part}
 use Rattle.ground.proofs.Bools.{bool-cases, never-both}
 use Rattle.ground.proofs.Regions.{pad-put, part-length}
+use Rattle.ground.proofs.Counts.{length-mapped}
 use Rattle.netlist.specs.Netlist.{Meta, Netlist, membersOf, attrBitsOf}
 use Rattle.netlist.specs.Rules.{roomy}
 use Rattle.saying.specs.Values.{rowFrom, rowOf}
@@ -24,7 +25,7 @@ use Rattle.metas.specs.MetaRows.{metaWords, RowSays, metaTally, MetaRoom
 use Rattle.noting.specs.declared.Tally.{Tally}
 use Rattle.metas.specs.declared.MetaRow.{MetaRow}
 use Rattle.noting.proofs.Flat.{put, length-put, part-put, part-before, part-after}
-use Rattle.noting.proofs.Growing.{joined-last, map-last, length-mapped, length-last}
+use Rattle.noting.proofs.Growing.{joined-last, map-last, length-last}
 use Rattle.noting.proofs.Limits.{meta-strings, meta-members, meta-trits, meta-fits}
 
 -- THE MAP: a number that is not declared yet gets the next row

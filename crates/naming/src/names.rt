@@ -7,9 +7,9 @@ ghost use Rattle.ground.specs.Regions.{part};
 ghost use Rattle.writing.specs.Stands.{most, Wrote};
 ghost use Rattle.naming.specs.Rows.{fieldAt, parentAt, ownAt, nameAt, identAt, Rising};
 use decimals::put_signed;
+use words::wide;
 use writing::room::end_of;
 use writing::room::put;
-use writing::room::wide;
 
 // A word of a row.
 fn field_of(metas: &[u32], row: usize, i: usize) -> u32

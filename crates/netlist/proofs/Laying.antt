@@ -8,10 +8,10 @@ use native.Mathlib.Nat.{zero-add}
 use lib.Dec.{leb}
 use lib.ListN.{length, drop, take, length-append, length-take, length-drop}
 use lib.Seq.{drop-append-seam}
-use borrow.Author.Tests.{leb-true}
+use borrow.Author.Tests.{leb-true, le-leb}
 use Rattle.ground.specs.Lists.{every, allOf, total, joined}
 use Rattle.ground.specs.Regions.{part, pad, zeros, fits}
-use Rattle.ground.proofs.Bools.{and-true, fact}
+use Rattle.ground.proofs.Bools.{and-true, fact, facts, no-facts}
 use Rattle.ground.proofs.Regions.{fits-pad, fits-at, part-length, length-pad, part-front, part-next}
 use Rattle.netlist.specs.Netlist.{Run, Meta, Io, Cell, Netlist, metaStrings, stringsOf, membersOf, attrBitsOf, runsOf, runBitsOf}
 use Rattle.netlist.specs.Rules.{shortString, outputBits, roomy, metasSound, cellSound, widthsOf, valid}
@@ -50,6 +50,28 @@ roomy-is N h =
       cellStrings = fact _ h 9;
       strings = leb-true _ _ (fact _ h 10);
     }
+
+pub is-roomy : (N : Netlist) → Roomy N → roomy N ≡ true
+unfolding roomy
+is-roomy N r =
+    facts _ _ (le-leb _ _ (r .cells))
+    (facts _ _ (le-leb _ _ (r .bits))
+    (facts _ _ (le-leb _ _ (r .outputs))
+    (facts _ _ (le-leb _ _ (r .runs))
+    (facts _ _ (le-leb _ _ (r .metas))
+    (facts _ _ (le-leb _ _ (r .members))
+    (facts _ _ (le-leb _ _ (r .ios))
+    (facts _ _ (r .metaStrings)
+    (facts _ _ (r .ioStrings)
+    (facts _ _ (r .cellStrings)
+    (facts _ _ (le-leb _ _ (r .strings)) no-facts))))))))))
+
+-- the strings are those of metadata, I/O and cells
+pub strings-long : (N : Netlist) → length (stringsOf N) ≡ length (metaStrings (N .metas)) + length (joined (λ (i : Io). i .name) (N .ios)) + length (joined (λ (c : Cell). c .name) (N .cells))
+strings-long N =
+    let is = joined (λ (i : Io). i .name) (N .ios) in
+    let cs = joined (λ (c : Cell). c .name) (N .cells) in
+    omega (arith, length-append (metaStrings (N .metas)) (is ++ cs), length-append is cs)
 
 pub valid-roomy : (N : Netlist) → valid N ≡ true → Roomy N
 unfolding valid

@@ -25,10 +25,6 @@ module _ {A B : Type 0} where
   map-last f [] x = refl
   map-last f (y ∷ xs) x = ap (λ (l : List B). f y ∷ l) (map-last f xs x)
 
-  pub length-mapped : (f : A → B) (xs : List A) → length (map f xs) ≡ length xs
-  length-mapped f [] = refl
-  length-mapped f (x ∷ xs) = ap suc (length-mapped f xs)
-
 module _ {A : Type 0} where
   pub length-last : (xs : List A) (x : A) → length (xs ++ (x ∷ [])) ≡ length xs + 1
   length-last xs x = length-append xs (x ∷ [])

@@ -16,6 +16,7 @@ use Rattle.ground.proofs.Regions.{pad-put, part-length}
 use Rattle.ground.specs.Refusals.{refusal}
 use Rattle.ground.specs.declared.Place.{Place}
 use Rattle.ground.specs.declared.Refusal.{Refusal}
+use Rattle.ground.proofs.Counts.{length-mapped}
 use Rattle.brackets.specs.declared.Str.{Str}
 use Rattle.signs.specs.Pieces.{decoded}
 use Rattle.netlist.specs.Netlist.{Io, Netlist}
@@ -33,7 +34,7 @@ use Rattle.noting.specs.Formed.{StrIn}
 use Rattle.noting.specs.declared.Ruling.the-variants as ruling
 use Rattle.noting.specs.declared.Tally.{Tally}
 use Rattle.noting.proofs.Flat.{put, length-put, part-put, part-before, part-after}
-use Rattle.noting.proofs.Growing.{joined-last, map-last, length-mapped, length-last, last-of-every}
+use Rattle.noting.proofs.Growing.{joined-last, map-last, length-last, last-of-every}
 use Rattle.noting.proofs.Passing.{passes-four, not-false, positive, string-inside, spells-there, passed-none, refused-some}
 use Rattle.noting.proofs.Limits.{io-strings, io-fits, io-full}
 

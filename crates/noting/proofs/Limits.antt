@@ -11,31 +11,12 @@ use Rattle.ground.specs.Lists.{joined, every, allOf, total}
 use Rattle.ground.proofs.Bools.{bool-cases, facts, and-true, true-and}
 use Rattle.netlist.specs.Netlist.{Meta, Io, Cell, Netlist, metaStrings, stringsOf, membersOf, attrBitsOf}
 use Rattle.netlist.specs.Rules.{shortString, outputBits, roomy}
-use Rattle.netlist.proofs.Laying.{Roomy, roomy-is}
+use Rattle.netlist.proofs.Laying.{Roomy, roomy-is, is-roomy}
 use Rattle.saying.specs.Rules.{Sofar}
 use Rattle.noting.specs.Noted.{Tallied}
 use Rattle.noting.specs.Rulings.{ioMore, metaMore}
 use Rattle.noting.specs.declared.Tally.{Tally}
 use Rattle.noting.proofs.Growing.{joined-last, joined-long, length-last, every-last, last-of-every}
-
-no-facts : allOf [] ≡ true
-unfolding allOf
-no-facts = refl
-
-pub is-roomy : (N : Netlist) → Roomy N → roomy N ≡ true
-unfolding roomy
-is-roomy N r =
-    facts _ _ (le-leb _ _ (r .cells))
-    (facts _ _ (le-leb _ _ (r .bits))
-    (facts _ _ (le-leb _ _ (r .outputs))
-    (facts _ _ (le-leb _ _ (r .runs))
-    (facts _ _ (le-leb _ _ (r .metas))
-    (facts _ _ (le-leb _ _ (r .members))
-    (facts _ _ (le-leb _ _ (r .ios))
-    (facts _ _ (r .metaStrings)
-    (facts _ _ (r .ioStrings)
-    (facts _ _ (r .cellStrings)
-    (facts _ _ (le-leb _ _ (r .strings)) no-facts))))))))))
 
 -- a limit that is passed
 pub not-roomy : (N : Netlist) → (Roomy N → ⊥) → roomy N ≡ false

@@ -18,22 +18,21 @@ fn is_digit(b: u8) -> bool
 }
 
 // The number n with the digit b behind it. Past its limit it stays, so that no number of digits overflows.
-fn grown(limit: u64, n: u64, b: u8) -> u64
-    requires { ⌜ (limit ≤ 4294967295) × (n ≤ 42949672959) × (48 ≤ b) × (b ≤ 57) ⌝ }
+fn grown(limit: u32, n: u64, b: u8) -> u64
+    requires { ⌜ (n ≤ 42949672959) × (48 ≤ b) × (b ≤ 57) ⌝ }
     ensures { λ r. ⌜ (r ≡ grownPast limit n b) × (r ≤ 42949672959) ⌝ }
 {
-    if limit < n {
+    if (limit as u64) < n {
         return n;
     }
     n * 10 + ((b as u64) - 48)
 }
 
 // The numeral that the digits make.
-fn ended(limit: u64, n: u64, end: usize) -> Numeral
-    requires { ⌜ limit ≤ 4294967295 ⌝ }
+fn ended(limit: u32, n: u64, end: usize) -> Numeral
     ensures { λ r. ⌜ r ≡ limited limit (record { value = n; end = end }) ⌝ }
 {
-    if limit < n {
+    if (limit as u64) < n {
         return Numeral {
             value: 0,
             large: true,
@@ -48,8 +47,7 @@ fn ended(limit: u64, n: u64, end: usize) -> Numeral
 }
 
 // The numeral from a place on.
-pub fn numeral_at(text: &[u8], at: usize, limit: u64) -> Numeral
-    requires { ⌜ limit ≤ 4294967295 ⌝ }
+pub fn numeral_at(text: &[u8], at: usize, limit: u32) -> Numeral
     ensures { λ r. ⌜ r ≡ numeralAt limit (now (text .entry)) at ⌝ }
 {
     let mut n: u64 = 0;

@@ -18,24 +18,12 @@ use Rattle.writing.specs.Parts.{upTo}
 use Rattle.writing.specs.Stands.{Wrote, Leaves}
 use Rattle.writing.proofs.Stands.{step, ended, same-rest}
 use Rattle.writing.proofs.Parts.{up-start, up-none}
+use Rattle.netlist.proofs.Runs.{runs-at, runs-length}
 use Rattle.operands.specs.Operands.{run, runs, moreRuns, operand, holding, heldRuns}
 
 -- a row is its first three words
 pub run-row : (T : Tables) (rs : List ℕ) → runIn T (take 3 rs) ≡ runIn T rs
 run-row T rs = rw (getD-take 3 rs 0 0 (omega arith), getD-take 3 rs 1 0 (omega arith), getD-take 3 rs 2 0 (omega arith))
-
-pub runs-at : (T : Tables) (n i : ℕ) (rows : List ℕ) → i < n → drop i (runsIn T n rows) ≡ runIn T (drop (i * 3) rows) ∷ drop (i + 1) (runsIn T n rows)
-unfolding runsIn
-runs-at T zero i rows h = absurd (omega arith)
-runs-at T (suc n) zero rows h = refl
-runs-at T (suc n) (suc i) rows h =
-    let e : suc i * 3 ≡ 3 + i * 3 = omega arith in
-    rw (e, add-one) (runs-at T n i (drop 3 rows) (omega arith) ∙ rw (drop-drop (i * 3) 3 rows, add-one))
-
-pub runs-length : (T : Tables) (n : ℕ) (rows : List ℕ) → length (runsIn T n rows) ≡ n
-unfolding runsIn
-runs-length T zero rows = refl
-runs-length T (suc n) rows = ap suc (runs-length T n (drop 3 rows))
 
 -- the first of some runs of the table
 pub first-run : (rows trits row : List ℕ) (i e : ℕ) → i < e → e ≤ 4096 → row ≡ take 3 (drop (i * 3) rows)

@@ -16,9 +16,9 @@ ghost use Rattle.writing.specs.Stands.{Wrote};
 ghost use Rattle.operands.specs.Operands.{offset, width, run, runs, moreRuns, operand, holding, heldRuns};
 use decimals::put_number;
 use quotes::put_trits;
+use words::wide;
 use writing::room::end_of;
 use writing::room::put;
-use writing::room::wide;
 
 // The word at a place, 0 past the end.
 fn word_at(words: &[u32], i: u32) -> u32

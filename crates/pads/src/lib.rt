@@ -9,6 +9,7 @@ use netlist::Found;
 use pools::word_of;
 use regions::ios_of;
 use regions::strings_of;
+use words::wide;
 ghost use mathlib.Core.Path.{_≡_};
 ghost use Prim.Native.Nat.{ℕ, _+_, _*_, _≤_, _<_};
 ghost use lib.ListN.{length, drop};
@@ -25,12 +26,6 @@ pub struct Pad {
     pub start: u32,
     pub length: u32,
     pub width: u32,
-}
-
-fn wide(x: u32) -> usize
-    ensures { λ r. ⌜ (r ≡ x) × (r < 4294967296) ⌝ }
-{
-    x as usize
 }
 
 // Whether two strings are the same; those of other lengths are never compared.

@@ -1,4 +1,5 @@
--- WHAT IS ASKED OF GOOD TABLES: full names and the I/O lookup. Each number that they tell, with what then holds; and what they answer else.
+-- WHAT IS ASKED OF GOOD TABLES: full names and the I/O lookup. Each number is told exactly on its ground, where none before it
+-- holds; and what they answer else.
 -- Assumes nothing.
 use mathlib.Core.Path.{_≡_, refl, ap, _∙_, sym, subst}
 use mathlib.Core.Bool.{Bool, true, false, not}
@@ -13,7 +14,7 @@ use Rattle.ground.specs.Refusals.{at, refusal}
 use Rattle.ground.specs.Regions.{over}
 use Rattle.ground.specs.Text.{same}
 use Rattle.ground.specs.declared.Refusal.{Refusal}
-use Rattle.ground.proofs.Bools.{bool-cases}
+use Rattle.ground.proofs.Bools.{bool-cases, never-both}
 use Rattle.netlist.specs.Netlist.{Io, Netlist}
 use Rattle.netlist.specs.Tables.{tablesIn}
 use Rattle.netlist.specs.Good.{short, good, checkOf, netlistIn, ioFrom, lookup, lookupOf}
@@ -28,9 +29,11 @@ use Rattle.naming.specs.declared.Named.the-variants as named
 -- FULL NAMES: 1, 15, 16, 24
 pub data Unnamed (rows strings bits : List ℕ) (row : ℕ) (room : List ℕ) : Refusal → Type 0 where
   lent-short : short rows strings bits ≡ true → Unnamed rows strings bits row room (refusal 1 (at 0))
-  not-good : good (tablesIn rows strings bits) ≡ false → Unnamed rows strings bits row room (refusal 15 (at 0))
-  no-ident : isIdent (netlistIn rows strings bits) row ≡ false → Unnamed rows strings bits row room (refusal 16 (at 0))
-  no-room : ltb (length room) (length (fullName (netlistIn rows strings bits) row)) ≡ true → Unnamed rows strings bits row room (refusal 24 (at 0))
+  not-good : short rows strings bits ≡ false → good (tablesIn rows strings bits) ≡ false → Unnamed rows strings bits row room (refusal 15 (at 0))
+  no-ident : short rows strings bits ≡ false → good (tablesIn rows strings bits) ≡ true → isIdent (netlistIn rows strings bits) row ≡ false
+      → Unnamed rows strings bits row room (refusal 16 (at 0))
+  no-room : short rows strings bits ≡ false → good (tablesIn rows strings bits) ≡ true → isIdent (netlistIn rows strings bits) row ≡ true
+      → ltb (length room) (length (fullName (netlistIn rows strings bits) row)) ≡ true → Unnamed rows strings bits row room (refusal 24 (at 0))
 
 abbrev toldNamed : Named → Refusal
 toldNamed (named.Refused g) = g
@@ -49,10 +52,17 @@ module _ (rows strings bits : List ℕ) (row : ℕ) (room : List ℕ) where
       (λ a. bool-cases (good (tablesIn rows strings bits))
       (λ b. bool-cases (isIdent (netlistIn rows strings bits) row)
       (λ c. bool-cases (ltb (length room) (length (fullName (netlistIn rows strings bits) row)))
-      (λ d. (named-by g (refusal 24 (at 0)) (rw (a, b, c, d) at e) (no-room d), rw (a, b, c, d)))
+      (λ d. (named-by g (refusal 24 (at 0)) (rw (a, b, c, d) at e) (no-room a b c d), rw (a, b, c, d)))
       (λ d. let z : _≡_ {A = ℕ} 0 1 = cc (rw (a, b, c, d) at e) in absurd (omega arith)))
-      (λ c. (named-by g (refusal 16 (at 0)) (rw (a, b, c) at e) (no-ident c), rw (a, b, c))))
-      (λ b. (named-by g (refusal 15 (at 0)) (rw (a, b) at e) (not-good b), rw (a, b))))
+      (λ c. (named-by g (refusal 16 (at 0)) (rw (a, b, c) at e) (no-ident a b c), rw (a, b, c))))
+      (λ b. (named-by g (refusal 15 (at 0)) (rw (a, b) at e) (not-good a b), rw (a, b))))
+
+  pub naming-told : {g : Refusal} → Unnamed rows strings bits row room g → naming.nameOf rows strings bits row room .answer ≡ named.Refused g
+  unfolding naming.nameOf naming.written checkOf
+  naming-told (lent-short a) = rw a
+  naming-told (not-good a b) = rw (a, b)
+  naming-told (no-ident a b c) = rw (a, b, c)
+  naming-told (no-room a b c d) = rw (a, b, c, d)
 
   -- the full name of every ident of good tables is written, wherever the room takes it
   pub name-written : checkOf rows strings bits ≡ checked.Good → isIdent (netlistIn rows strings bits) row ≡ true
@@ -80,8 +90,9 @@ pub record First (ios : List Io) (name : List ℕ) (row width : ℕ) : Type 0 wh
 
 pub data Unfound (rows strings bits name : List ℕ) : Refusal → Type 0 where
   lent-short : short rows strings bits ≡ true → Unfound rows strings bits name (refusal 1 (at 0))
-  not-good : good (tablesIn rows strings bits) ≡ false → Unfound rows strings bits name (refusal 15 (at 0))
-  nameless : Nameless (netlistIn rows strings bits .ios) name → Unfound rows strings bits name (refusal 18 (at 0))
+  not-good : short rows strings bits ≡ false → good (tablesIn rows strings bits) ≡ false → Unfound rows strings bits name (refusal 15 (at 0))
+  nameless : short rows strings bits ≡ false → good (tablesIn rows strings bits) ≡ true → Nameless (netlistIn rows strings bits .ios) name
+      → Unfound rows strings bits name (refusal 18 (at 0))
 
 abbrev toldFound : Found → Refusal
 toldFound (found.Refused g) = g
@@ -134,9 +145,10 @@ module _ (rows strings bits name : List ℕ) where
   found-by : (g h : Refusal) → found.Refused h ≡ found.Refused g → Unfound rows strings bits name h → Unfound rows strings bits name g
   found-by g h e u = subst (λ (q : Refusal). Unfound rows strings bits name q) (ap toldFound e) u
 
-  of-search : (f : Found) → Searched (netlistIn rows strings bits .ios) 0 name f → (g : Refusal) → f ≡ found.Refused g → Unfound rows strings bits name g
-  of-search f (hit k w o) g e = let z : _≡_ {A = ℕ} 0 1 = cc (e) in absurd (omega arith)
-  of-search f (miss n) g e = found-by g (refusal 18 (at 0)) e (nameless n)
+  of-search : short rows strings bits ≡ false → good (tablesIn rows strings bits) ≡ true → (f : Found) → Searched (netlistIn rows strings bits .ios) 0 name f
+      → (g : Refusal) → f ≡ found.Refused g → Unfound rows strings bits name g
+  of-search a b f (hit k w o) g e = let z : _≡_ {A = ℕ} 0 1 = cc (e) in absurd (omega arith)
+  of-search a b f (miss n) g e = found-by g (refusal 18 (at 0)) e (nameless a b n)
 
   pub lookup-refused : (g : Refusal) → lookupOf rows strings bits name ≡ found.Refused g → Unfound rows strings bits name g
   unfolding lookupOf checkOf
@@ -144,8 +156,19 @@ module _ (rows strings bits name : List ℕ) where
       bool-cases (short rows strings bits)
       (λ a. found-by g (refusal 1 (at 0)) (rw a at e) (lent-short a))
       (λ a. bool-cases (good (tablesIn rows strings bits))
-      (λ b. of-search (lookup (netlistIn rows strings bits) name) (searched (netlistIn rows strings bits .ios) 0 name) g (rw (a, b) at e))
-      (λ b. found-by g (refusal 15 (at 0)) (rw (a, b) at e) (not-good b)))
+      (λ b. of-search a b (lookup (netlistIn rows strings bits) name) (searched (netlistIn rows strings bits .ios) 0 name) g (rw (a, b) at e))
+      (λ b. found-by g (refusal 15 (at 0)) (rw (a, b) at e) (not-good a b)))
+
+  -- where no row has the name, the search finds none
+  none-found : (f : Found) → Searched (netlistIn rows strings bits .ios) 0 name f → Nameless (netlistIn rows strings bits .ios) name → f ≡ found.Refused (refusal 18 (at 0))
+  none-found f (hit k w o) n = never-both (o .named) (n k (o .there))
+  none-found f (miss m) n = refl
+
+  pub lookup-told : {g : Refusal} → Unfound rows strings bits name g → lookupOf rows strings bits name ≡ found.Refused g
+  unfolding lookupOf checkOf
+  lookup-told (lent-short a) = rw a
+  lookup-told (not-good a b) = rw (a, b)
+  lookup-told (nameless a b n) = rw (a, b) (none-found (lookup (netlistIn rows strings bits) name) (searched (netlistIn rows strings bits .ios) 0 name) n)
 
   -- a row that is told is the first that has the name
   of-hit : (f : Found) → Searched (netlistIn rows strings bits .ios) 0 name f → (row width : ℕ) → f ≡ found.Row row width

@@ -36,6 +36,7 @@ use Rattle.evaluating.specs.declared.Evaluated.the-variants as evaluated
 use Rattle.translating.specs.Outcome as translating
 use Rattle.translating.specs.Translation.{translation, recordSum}
 use Rattle.translating.specs.declared.Translated.the-variants as translated
+use Rattle.promises.proofs.Unread.{lentShort, Unread, judged, read-refused}
 use Rattle.promises.proofs.GoodTables.{shown-valid, text-printed, in-ring, too-many, list-made, list-runs, evaluation-made}
 
 -- WHAT A READ THAT IS ACCEPTED GIVES: good tables of the netlist that the text says; its one text, where the room takes it; its one list,
@@ -81,41 +82,28 @@ module _ (text : List ℕ) (o : reading.Outcome) (a : Accepted text o) where
     evaluated = evaluation-made (o .rows) (o .strings) (o .bits) (a .good);
   }
 
--- WHAT A READ THAT IS REFUSED MEANS: 1 where a lent slice is short, and then nothing is changed; else the text says no netlist, and all
--- tables and the work space are zero
-abbrev pub lentShort : List ℕ → List ℕ → List ℕ → List ℕ → Bool
-lentShort rows strings bits work = short rows strings bits || ltb (length work) reading.workLength
-
+-- WHAT A READ THAT IS REFUSED MEANS: its number has its ground; 1 where a lent slice is short, and then nothing is changed; else the text
+-- says no netlist, and all tables and the work space are zero
 pub record Turned (text rows strings bits work : List ℕ) (g : Refusal) : Type 0 where
+  pub ground : Unread text rows strings bits work g
   pub unchanged : lentShort rows strings bits work ≡ true
       → reading.readOf text rows strings bits work ≡ reading.made (read.Refused (refusal 1 (at 0))) rows strings bits work
   pub unsaid : lentShort rows strings bits work ≡ false → (N : Netlist) → Says text N → ⊥
   pub cleared : lentShort rows strings bits work ≡ false
       → reading.readOf text rows strings bits work ≡ reading.left rows strings bits work (refused g)
 
-abbrev refusalIn : Read → Refusal
-refusalIn (read.Refused g) = g
-refusalIn read.Accepted = refusal 0 (at 0)
-
 -- a text that is refused says nothing
 never-said : {P : Type 0} (g : Refusal) (N : Netlist) → refused g ≡ says N → P
 never-said g N e = let z : _≡_ {A = ℕ} 0 1 = cc in absurd (omega arith)
 
-left-refused : (rows strings bits work : List ℕ) (g : Refusal) (r : Reading) → reading.left rows strings bits work r .answer ≡ read.Refused g → r ≡ refused g
-left-refused rows strings bits work g (says N) e = let z : _≡_ {A = ℕ} 0 1 = cc in absurd (omega arith)
-left-refused rows strings bits work g (refused h) e = ap (λ (r : Read). refused (refusalIn r)) e
-
 module _ (text rows strings bits work : List ℕ) (g : Refusal) (e : reading.readOf text rows strings bits work .answer ≡ read.Refused g) where
-  judged : lentShort rows strings bits work ≡ false → reading text ≡ refused g
-  unfolding reading.readOf
-  judged f = left-refused rows strings bits work g (reading text) (rw f at e)
-
   turned : Turned text rows strings bits work g
   unfolding reading.readOf
   turned = record {
+    ground = read-refused text rows strings bits work g e;
     unchanged = λ f. rw f;
-    unsaid = λ f N s. never-said g N (sym (judged f) ∙ says-read text N s);
-    cleared = λ f. rw f (ap (reading.left rows strings bits work) (judged f));
+    unsaid = λ f N s. never-said g N (sym (judged text rows strings bits work g e f) ∙ says-read text N s);
+    cleared = λ f. rw f (ap (reading.left rows strings bits work) (judged text rows strings bits work g e f));
   }
 
 -- THE ANSWER: a refusal, which has its number and its place, or a card

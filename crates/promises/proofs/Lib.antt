@@ -1,6 +1,7 @@
 mod Taking
 pub mod GoodTables
 pub mod Grounds
+pub mod Unread
 pub mod Asked
 pub mod EndToEnd
 pub mod OneAnswer

@@ -7,6 +7,8 @@ use Prim.Native.Nat.{ℕ}
 use Rattle.ground.proofs.Outcome.{any-two}
 use Rattle.scanning.specs.Whole.{wholeOf}
 use Rattle.lexis.specs.Tokens.{tokenAt, insideAt}
+use Rattle.signs.specs.Decoding.{decodedInto}
+use Rattle.brackets.specs.Walks.{operandWalk, walkStep, setTour, tourStep}
 use Rattle.form.specs.Forms.{formOf}
 use Rattle.netlist.specs.Good.{checkOf, lookupOf}
 use Rattle.netlist.specs.declared.Checked.{Checked}
@@ -18,10 +20,10 @@ use Rattle.loadlist.specs.Run.{runOf}
 use Rattle.evaluating.specs.Outcome.{evaluateOf}
 use Rattle.translating.specs.Outcome.{translateOf}
 
-abbrev One : {A B : Type 0} → (A → B) → Type 0
+abbrev pub One : {A B : Type 0} → (A → B) → Type 0
 One {A} {B} f = (a : A) (o p : B) → o ≡ f a → p ≡ f a → o ≡ p
 
--- of a text: as a whole, its tokens, its declarations
+-- of a text: as a whole, its tokens, its declarations, the parts of an operand and the members of a set one a step, the bytes of a string
 pub whole-one : One wholeOf
 whole-one = any-two wholeOf
 
@@ -34,6 +36,21 @@ module _ (text : List ℕ) where
 
   pub declaration-one : One (formOf text)
   declaration-one = any-two (formOf text)
+
+  pub walk-one : One (operandWalk text)
+  walk-one = any-two (operandWalk text)
+
+  pub walk-step-one : One (walkStep text)
+  walk-step-one = any-two (walkStep text)
+
+  pub tour-one : One (setTour text)
+  tour-one = any-two (setTour text)
+
+  pub tour-step-one : One (tourStep text)
+  tour-step-one = any-two (tourStep text)
+
+  pub decode-one : (from : ℕ) → One (decodedInto text from)
+  decode-one from = any-two (decodedInto text from)
 
 -- of a text and lent tables
 pub read-one : (rows strings bits work : List ℕ) → One (λ (text : List ℕ). readOf text rows strings bits work)

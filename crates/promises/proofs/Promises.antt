@@ -1,22 +1,30 @@
 -- THE PROMISES: each demand of the tender in its own words, stated of the definitions that the functions' contracts are equations with.
--- Each is proved by citing; OneAnswer has the determinacy of every entry point, Grounds and Asked the refusals, EndToEnd what a text comes to.
+-- Each is proved by citing; OneAnswer has the determinacy of every entry point, Unread, Grounds and Asked the refusals, EndToEnd what a
+-- text comes to.
 use mathlib.Core.Path.{_≡_}
 use mathlib.Core.Bool.{Bool, true, false, _||_}
 use lib.Dec.{ltb}
 use mathlib.Core.List.{List, map}
-use mathlib.Core.Option.{Option, none}
+use mathlib.Core.Option.{Option, none, some}
 use Prim.Native.Nat.{ℕ, _*_, _<_, _≤_}
 use lib.ListN.{length, take}
 use Rattle.ground.specs.Regions.{zeros, over, pad}
 use Rattle.ground.specs.declared.Refusal.{Refusal}
+use Rattle.ground.proofs.Outcome.{any-two}
 use Rattle.netlist.specs.Netlist.{Netlist}
 use Rattle.netlist.specs.Rules.{valid}
 use Rattle.netlist.specs.Tables.{Tables, layout, rowsLength, stringsLength, bitsLength}
 use Rattle.netlist.specs.View.{view}
 use Rattle.netlist.specs.Good.{good, short, checkOf, netlistIn, lookupOf}
+use Rattle.netlist.specs.declared.Checked.{Checked}
 use Rattle.netlist.specs.declared.Checked.the-variants as checked
 use Rattle.netlist.specs.declared.Found.the-variants as found
 use Rattle.netlist.proofs.Laying.{Long, Layout, view-layout, good-is, layout-good}
+use Rattle.scanning.specs.Whole.{wholeOf}
+use Rattle.lexis.specs.Tokens.{tokenAt, insideAt}
+use Rattle.signs.specs.Decoding.{decodedInto}
+use Rattle.brackets.specs.Walks.{operandWalk, walkStep, setTour, tourStep}
+use Rattle.form.specs.Forms.{formOf}
 use Rattle.declaring.specs.Reading.{says, reading}
 use Rattle.reading.specs.Outcome.{readOf, made, workLength}
 use Rattle.reading.specs.declared.Read.the-variants as read
@@ -33,7 +41,8 @@ use Rattle.language.proofs.Exactly.{says-read, read-says}
 use Rattle.returning.proofs.RoundTrip.{returns, one-text}
 use Rattle.returning.proofs.TablesBack.{printed-return, tables-return, one-table}
 use Rattle.loadlist.specs.Records.{listBytes}
-use Rattle.loadlist.specs.Check.{badRecord}
+use Rattle.loadlist.specs.Check.{badRecord, listedOf}
+use Rattle.loadlist.specs.declared.Listed.the-variants as listed
 use Rattle.loadlist.specs.Run.{slots, assigns, runOf}
 use Rattle.loadlist.specs.Run as run
 use Rattle.loadlist.specs.declared.Ran.the-variants as ran
@@ -54,8 +63,10 @@ use Rattle.promises.specs.Asking.{Line, answerTo}
 use Rattle.promises.specs.Lines.{markedLines}
 use Rattle.promises.proofs.Lines.{lines-hold}
 use Rattle.promises.proofs.GoodTables.{text-printed, list-made, list-runs, evaluation-made}
-use Rattle.promises.proofs.Grounds.{Left, Unprinted, Unevaluated, Untranslated, Unrun, printing-refused, evaluation-refused, translation-refused, run-refused}
-use Rattle.promises.proofs.Asked.{Unnamed, Unfound, First, naming-refused, name-written, lookup-refused, lookup-first}
+use Rattle.promises.proofs.OneAnswer.{One, whole-one, token-one, inside-one, declaration-one, walk-one, walk-step-one, tour-one, tour-step-one, decode-one, read-one, check-one, lookup-one, print-one, name-one, evaluation-one, translation-one, list-one, run-one}
+use Rattle.promises.proofs.Unread.{Unread, read-refused, read-told}
+use Rattle.promises.proofs.Grounds.{Left, Unchecked, Unprinted, Unevaluated, Untranslated, Unrun, check-refused, check-told, printing-refused, printing-told, evaluation-refused, evaluation-told, translation-refused, translation-told, list-bad, bad-listed, run-refused, run-told}
+use Rattle.promises.proofs.Asked.{Unnamed, Unfound, First, naming-refused, naming-told, name-written, lookup-refused, lookup-told, lookup-first}
 use Rattle.promises.proofs.EndToEnd.{Answered, end-to-end}
 
 -- "document 01's good tables": good tables are exactly the layouts of valid netlists, and show the netlist again
@@ -123,34 +134,78 @@ one-netlist = one-text
 pub from-any-bytes : (text rows strings bits work : List ℕ) → Answered text rows strings bits work (readOf text rows strings bits work .answer)
 from-any-bytes = end-to-end
 
--- "This holds for lent tables, load lists and bench values as well as for text .. and what a refusal leaves in lent memory is fixed": each
--- number that is told has its ground; rooms are as they were, work space is zero, or as it was after 1
+-- .. and it is one answer: the contract of a public function is one equation, and what two outcomes tell and leave that it allows is the same
+pub one-answer : {A B : Type 0} (f : A → B) → One f
+one-answer f = any-two f
+
+-- of each entry point: on a text,
+pub texts-answered : One wholeOf
+    × ((text : List ℕ) → One (tokenAt text) × (One (insideAt text) × (One (formOf text) × (One (operandWalk text) × (One (walkStep text) × (One (setTour text) × (One (tourStep text) × ((from : ℕ) → One (decodedInto text from)))))))))
+texts-answered = (whole-one, λ text. (token-one text, (inside-one text, (declaration-one text, (walk-one text, (walk-step-one text, (tour-one text, (tour-step-one text, decode-one text))))))))
+
+-- .. with lent tables, and on them,
+pub reads-answered : (rows strings bits work : List ℕ) → One (λ (text : List ℕ). readOf text rows strings bits work)
+reads-answered = read-one
+
+pub tables-answered : (rows strings bits : List ℕ)
+    → ((o p : Checked) → o ≡ checkOf rows strings bits → p ≡ checkOf rows strings bits → o ≡ p)
+    × (One (lookupOf rows strings bits) × (One (printOf rows strings bits) × (((row : ℕ) → One (nameOf rows strings bits row))
+    × (((ins outs : List ℕ) → One (evaluateOf rows strings bits ins outs)) × ((room : List ℕ) → One (translateOf rows strings bits room))))))
+tables-answered rows strings bits =
+    (check-one rows strings bits, (lookup-one rows strings bits, (print-one rows strings bits, (name-one rows strings bits, (evaluation-one rows strings bits, translation-one rows strings bits)))))
+
+-- .. and on load lists and bench values
+pub lists-answered : One listedOf × ((ins outs work : List ℕ) → One (λ (list : List ℕ). runOf list ins outs work))
+lists-answered = (list-one, run-one)
+
+-- "This holds for lent tables, load lists and bench values as well as for text": each number is told exactly where its ground holds and none
+-- before it; ".. and what a refusal leaves in lent memory is fixed": rooms are as they were, work space is zero, or as it was after 1
+pub reading-grounds : (text rows strings bits work : List ℕ) (g : Refusal)
+    → (readOf text rows strings bits work .answer ≡ read.Refused g → Unread text rows strings bits work g)
+    × (Unread text rows strings bits work g → readOf text rows strings bits work .answer ≡ read.Refused g)
+reading-grounds text rows strings bits work g = (read-refused text rows strings bits work g, read-told text rows strings bits work)
+
 module _ (rows strings bits : List ℕ) (g : Refusal) where
-  pub printing-grounds : (room : List ℕ) → printOf rows strings bits room .answer ≡ printed.Refused g
-      → Unprinted rows strings bits room g × (printOf rows strings bits room .room ≡ room)
-  printing-grounds room = printing-refused rows strings bits room g
+  pub check-grounds : (checkOf rows strings bits ≡ checked.Refused g → Unchecked rows strings bits g) × (Unchecked rows strings bits g → checkOf rows strings bits ≡ checked.Refused g)
+  check-grounds = (check-refused rows strings bits g, check-told rows strings bits)
 
-  pub naming-grounds : (row : ℕ) (room : List ℕ) → nameOf rows strings bits row room .answer ≡ named.Refused g
-      → Unnamed rows strings bits row room g × (nameOf rows strings bits row room .room ≡ room)
-  naming-grounds row room = naming-refused rows strings bits row room g
+  pub printing-grounds : (room : List ℕ)
+      → (printOf rows strings bits room .answer ≡ printed.Refused g → Unprinted rows strings bits room g × (printOf rows strings bits room .room ≡ room))
+      × (Unprinted rows strings bits room g → printOf rows strings bits room .answer ≡ printed.Refused g)
+  printing-grounds room = (printing-refused rows strings bits room g, printing-told rows strings bits room)
 
-  pub lookup-grounds : (asked : List ℕ) → lookupOf rows strings bits asked ≡ found.Refused g → Unfound rows strings bits asked g
-  lookup-grounds asked = lookup-refused rows strings bits asked g
+  pub naming-grounds : (row : ℕ) (room : List ℕ)
+      → (nameOf rows strings bits row room .answer ≡ named.Refused g → Unnamed rows strings bits row room g × (nameOf rows strings bits row room .room ≡ room))
+      × (Unnamed rows strings bits row room g → nameOf rows strings bits row room .answer ≡ named.Refused g)
+  naming-grounds row room = (naming-refused rows strings bits row room g, naming-told rows strings bits row room)
 
-  pub evaluation-grounds : (ins outs work : List ℕ) → evaluateOf rows strings bits ins outs work .answer ≡ evaluated.Refused g
+  pub lookup-grounds : (asked : List ℕ)
+      → (lookupOf rows strings bits asked ≡ found.Refused g → Unfound rows strings bits asked g) × (Unfound rows strings bits asked g → lookupOf rows strings bits asked ≡ found.Refused g)
+  lookup-grounds asked = (lookup-refused rows strings bits asked g, lookup-told rows strings bits asked)
+
+  pub evaluation-grounds : (ins outs work : List ℕ)
+      → (evaluateOf rows strings bits ins outs work .answer ≡ evaluated.Refused g
       → Unevaluated rows strings bits ins outs work g
-      × Left (short rows strings bits || ltb (length work) 8192) outs (evaluateOf rows strings bits ins outs work .outs) work (evaluateOf rows strings bits ins outs work .work)
-  evaluation-grounds ins outs work = evaluation-refused rows strings bits ins outs work g
+      × Left (short rows strings bits || ltb (length work) 8192) outs (evaluateOf rows strings bits ins outs work .outs) work (evaluateOf rows strings bits ins outs work .work))
+      × (Unevaluated rows strings bits ins outs work g → evaluateOf rows strings bits ins outs work .answer ≡ evaluated.Refused g)
+  evaluation-grounds ins outs work = (evaluation-refused rows strings bits ins outs work g, evaluation-told rows strings bits ins outs work)
 
   -- Demand 3: "Translation is refused only on the grounds named there"
-  pub translation-grounds : (room work : List ℕ) → translateOf rows strings bits room work .answer ≡ translated.Refused g
+  pub translation-grounds : (room work : List ℕ)
+      → (translateOf rows strings bits room work .answer ≡ translated.Refused g
       → Untranslated rows strings bits room work g
-      × Left (short rows strings bits || ltb (length work) 8192) room (translateOf rows strings bits room work .room) work (translateOf rows strings bits room work .work)
-  translation-grounds room work = translation-refused rows strings bits room work g
+      × Left (short rows strings bits || ltb (length work) 8192) room (translateOf rows strings bits room work .room) work (translateOf rows strings bits room work .work))
+      × (Untranslated rows strings bits room work g → translateOf rows strings bits room work .answer ≡ translated.Refused g)
+  translation-grounds room work = (translation-refused rows strings bits room work g, translation-told rows strings bits room work)
 
-pub run-grounds : (list ins outs work : List ℕ) (g : Refusal) → runOf list ins outs work .answer ≡ ran.Refused g
-    → Unrun list ins outs work g × Left (ltb (length work) 8192) outs (runOf list ins outs work .outs) work (runOf list ins outs work .work)
-run-grounds = run-refused
+pub list-grounds : (list : List ℕ) (k : ℕ) → (listedOf list ≡ listed.Bad k → badRecord list ≡ some k) × (badRecord list ≡ some k → listedOf list ≡ listed.Bad k)
+list-grounds list k = (list-bad list k, bad-listed list k)
+
+pub run-grounds : (list ins outs work : List ℕ) (g : Refusal)
+    → (runOf list ins outs work .answer ≡ ran.Refused g
+    → Unrun list ins outs work g × Left (ltb (length work) 8192) outs (runOf list ins outs work .outs) work (runOf list ins outs work .work))
+    × (Unrun list ins outs work g → runOf list ins outs work .answer ≡ ran.Refused g)
+run-grounds list ins outs work g = (run-refused list ins outs work g, run-told list ins outs work)
 
 -- Document 01: "The full name of an ident is written parent first": of every ident of good tables, wherever the room takes it
 pub name-written-whole : (rows strings bits : List ℕ) (row : ℕ) (room : List ℕ) → checkOf rows strings bits ≡ checked.Good → isIdent (netlistIn rows strings bits) row ≡ true

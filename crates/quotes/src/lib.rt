@@ -9,9 +9,9 @@ ghost use Rattle.ground.specs.Regions.{part};
 ghost use Rattle.netlist.specs.Rules.{isTrit};
 ghost use Rattle.writing.specs.Words.{rawByte, hexDigit, escaped, quoted, tritChar, trits};
 ghost use Rattle.writing.specs.Stands.{Wrote};
+use words::wide;
 use writing::room::end_of;
 use writing::room::put;
-use writing::room::wide;
 
 fn is_raw(b: u8) -> bool
     ensures { λ r. ⌜ r ≡ rawByte b ⌝ }

@@ -18,6 +18,7 @@ use Rattle.ground.specs.Regions.{pad, zeros, over}
 use Rattle.ground.specs.Refusals.{at, refusal}
 use Rattle.ground.specs.declared.Place.{Place}
 use Rattle.ground.specs.declared.Refusal.{Refusal}
+use Rattle.ground.proofs.Counts.{length-mapped}
 use Rattle.scanning.specs.Whole.{wholeOf}
 use Rattle.scanning.specs.declared.Whole.the-variants as whole
 use Rattle.netlist.specs.Netlist.{Cell, Netlist, runsOf}
@@ -26,7 +27,6 @@ use Rattle.netlist.specs.Good.{short}
 use Rattle.saying.specs.Pieces.{operandPieces, firstUnresolved}
 use Rattle.saying.specs.Rules.{Sofar}
 use Rattle.saying.specs.Notes.{CellNote, cellNote, cellsSaid}
-use Rattle.settling.proofs.Left.{length-mapped}
 use Rattle.noting.specs.Noted.{cellsIn, runsIn, cellMapIn, placesIn, Noted}
 use Rattle.noting.specs.declared.Tally.{Tally}
 use Rattle.resolving.specs.Resolving.{Looks, rowsResolve, lostAt, lostOf}

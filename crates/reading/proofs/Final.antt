@@ -7,11 +7,11 @@ use lib.ListN.{length, take, drop, getD, length-append, length-take, length-drop
 use lib.Seq.{take-all, take-add, drop-cons, drop-drop}
 use Rattle.ground.specs.Lists.{joined}
 use Rattle.ground.specs.Regions.{pad, part}
+use Rattle.ground.proofs.Counts.{length-mapped}
 use Rattle.netlist.specs.Netlist.{Run, const, piece, Cell, Netlist, stringsOf, metaStrings, membersOf, attrBitsOf, cellRuns, runsOf, bitsIn, runBitsOf}
 use Rattle.netlist.specs.Tables.{metaRows, ioRows, cellRow, cellRows, runRows, ioStart, cellStart, layout, rowsOf, bitsOf}
 use Rattle.saying.specs.Values.{rowRun, rowCell}
 use Rattle.saying.specs.Rules.{Sofar}
-use Rattle.settling.proofs.Left.{length-mapped}
 use Rattle.noting.specs.Noted.{metasIn, membersIn, iosIn, cellsIn, runsIn, attrTritsIn, runTritsIn}
 use Rattle.declaring.specs.Reading.{netlistOf}
 use Rattle.finishing.specs.Finish.{Settled}

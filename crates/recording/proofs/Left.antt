@@ -11,6 +11,7 @@ use Rattle.ground.proofs.Writes.{sets-append, wrote-length}
 use Rattle.loadlist.specs.declared.Record.{Record}
 use Rattle.loadlist.specs.Records.{listBytes, recordBytes}
 use Rattle.cells.specs.Records.{Made, made, then}
+use Rattle.loadlist.proofs.Laws.{bytes-long}
 use Rattle.recording.specs.Making.{Puts, Recorded, recorded, recordedOf, Room}
 
 -- RECORDS, one behind the other
@@ -18,11 +19,6 @@ bytes-append : (rs ss : List Record) → listBytes (rs ++ ss) ≡ listBytes rs +
 unfolding joined
 bytes-append [] ss = refl
 bytes-append (r ∷ rs) ss = ap (λ (l : List ℕ). recordBytes r ++ l) (bytes-append rs ss) ∙ sym (append-assoc (recordBytes r) (listBytes rs) (listBytes ss))
-
-bytes-long : (rs : List Record) → length (listBytes rs) ≡ 8 * length rs
-unfolding joined
-bytes-long [] = omega arith
-bytes-long (r ∷ rs) = let l = bytes-long rs in omega arith
 
 -- the records written in two parts
 sets-records : (l : List ℕ) (k : ℕ) (rs ss : List Record)

@@ -9,10 +9,10 @@ ghost use Rattle.writing.specs.Parts.{upTo};
 ghost use Rattle.writing.specs.Words.{reference, references, moreReferences, option};
 ghost use Rattle.writing.specs.Stands.{Wrote};
 use decimals::put_number;
+use words::wide;
 use writing::room::end_of;
 use writing::room::put;
 use writing::room::put_all;
-use writing::room::wide;
 
 // The row that a reference names; 0 where there is none.
 fn row_of(r: u32) -> u32

@@ -13,12 +13,12 @@ use borrow.Author.Tests.{leb-true, ltb-true}
 use Rattle.ground.specs.Lists.{every}
 use Rattle.ground.specs.Regions.{pad, zeros}
 use Rattle.ground.proofs.Bools.{bool-cases, never-both, and-true, every-more}
+use Rattle.ground.proofs.Counts.{length-mapped}
 use Rattle.netlist.specs.Netlist.{Run, const, piece, bitsIn}
 use Rattle.netlist.specs.Tables.{runRow, runRows}
 use Rattle.netlist.proofs.Lengths.{length-runRows}
 use Rattle.saying.specs.Values.{rowOf, rowRun}
 use Rattle.saying.specs.Notes.{Maps}
-use Rattle.settling.proofs.Left.{length-mapped}
 use Rattle.resolving.specs.Resolving.{rowWord, isDeclared, Numbered}
 
 pub record RunsLeft (numbers : List ℕ) (n i : ℕ) (table final : List ℕ) : Type 0 where

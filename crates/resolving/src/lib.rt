@@ -1,7 +1,6 @@
 // Resolving: when all declarations are noted, whether each piece of the text resolves (14), and the author's cell numbers in the run
 // rows become rows. It promises the place of the first piece that does not resolve, zero-width and zero-times ones included. Saying
 // stands below it, reading above.
-use asking::word_at;
 use brackets::Base;
 use brackets::Operand;
 use brackets::Part;
@@ -10,6 +9,7 @@ use brackets::Walked;
 use ground::Place;
 use walks::walk_of;
 use walks::walk_step;
+use words::word_at;
 ghost use mathlib.Core.Path.{_≡_};
 ghost use Prim.Native.Nat.{_≤_};
 ghost use lib.ListN.{length};

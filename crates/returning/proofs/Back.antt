@@ -9,6 +9,7 @@ use lib.Dec.{eqb}
 use lib.ListN.{length, drop, length-append}
 use Rattle.ground.specs.Choice.{pick}
 use Rattle.ground.specs.Lists.{total, upFrom}
+use Rattle.ground.proofs.Counts.{length-mapped}
 use Rattle.signs.specs.Bytes.{classOf, classFrom}
 use Rattle.signs.specs.Pieces.{insideEnd}
 use Rattle.lexis.specs.Tokens.{tokenFrom, insideAt, follows}
@@ -25,7 +26,6 @@ use Rattle.declaring.proofs.Declaring.{form-ends}
 use Rattle.celllines.specs.CellLines.{cellLines}
 use Rattle.lines.specs.Lines.{metaLines, ioLines, lines}
 use Rattle.fronts.specs.Fronts.{cellsSo, numberPast, numberCell}
-use Rattle.fronts.proofs.Rows.{length-mapped}
 use Rattle.fronts.proofs.Cutting.{cells-back}
 use Rattle.fronts.proofs.Sound.{meta-sound-at, io-sound-at, cell-sound-at}
 use Rattle.tokensback.proofs.Standing.{Stands}

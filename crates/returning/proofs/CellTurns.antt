@@ -10,6 +10,7 @@ use lib.ListN.{length, getD, length-append}
 use Rattle.ground.specs.Choice.{pick}
 use Rattle.ground.specs.Lists.{total}
 use Rattle.ground.proofs.Bools.{bool-cases, fact}
+use Rattle.ground.proofs.Counts.{length-mapped}
 use Rattle.netlist.specs.Netlist.{Meta, Cell, Netlist, operandWidth}
 use Rattle.netlist.specs.Rules.{valid, widthsOf, cellSound}
 use Rattle.netlist.proofs.Laying.{valid-roomy}
@@ -18,7 +19,7 @@ use Rattle.saying.specs.Pieces.{PieceAt, firstUnresolved}
 use Rattle.saying.specs.Rules.{Sofar, cell, saidBy}
 use Rattle.celllines.specs.CellLines.{cellLines}
 use Rattle.fronts.specs.Fronts.{cellsSo, numberPast, numberCell}
-use Rattle.fronts.proofs.Rows.{rowed, length-mapped, numbers-long, number-row, number-small}
+use Rattle.fronts.proofs.Rows.{rowed, numbers-long, number-row, number-small}
 use Rattle.fronts.proofs.Cutting.{cut-back}
 use Rattle.fronts.proofs.Room.{total-append}
 use Rattle.fronts.proofs.Sound.{cell-sound-at}

@@ -8,6 +8,7 @@ use mathlib.Core.List.{List, [], _∷_, _++_, map, append-assoc, append-nil}
 use mathlib.Core.Option.{none}
 use lib.ListN.{length, length-append}
 use Rattle.ground.specs.Refusals.{at}
+use Rattle.ground.proofs.Counts.{length-mapped}
 use Rattle.form.specs.declared.Decl.{Decl}
 use Rattle.form.specs.declared.Declared.{Declared}
 use Rattle.netlist.specs.Netlist.{Meta, Io, Netlist}
@@ -18,7 +19,7 @@ use Rattle.declaring.specs.Reading.{declarationsFrom}
 use Rattle.declaring.proofs.Declaring.{goes-on}
 use Rattle.lines.specs.Lines.{metaLines, ioLines}
 use Rattle.fronts.specs.Fronts.{metasSo, iosSo}
-use Rattle.fronts.proofs.Rows.{rowed, length-mapped}
+use Rattle.fronts.proofs.Rows.{rowed}
 use Rattle.fronts.proofs.Sound.{meta-sound-at, io-sound-at}
 use Rattle.fronts.proofs.Passes.{meta-added, io-added, meta-passes, io-passes}
 use Rattle.tokensback.proofs.Standing.{Stands, Declares}

@@ -23,17 +23,11 @@ use Rattle.signs.specs.declared.pieces.Quoted.the-variants.{Closed, Malformed}
 use Rattle.signs.proofs.Strings.{closed-size}
 use Rattle.brackets.specs.Words.{isSort}
 use Rattle.signs.specs.declared.pieces.Suffix.{Suffix}
+use Rattle.signs.proofs.Laws.{span-most}
 
 -- nothing to say
 abbrev pub Nothing : Type 0
 Nothing = _≡_ {A = ℕ} 0 0
-
-span-most : (p : ℕ → Bool) (s : List ℕ) (k : ℕ) → spanEnd p s k ≤ k + length s
-unfolding spanEnd
-span-most p [] k = omega arith
-span-most p (b ∷ s) k = bool-cases (p b)
-    (λ e. rw (e, spanEnd) (let h = span-most p s (k + 1) in omega arith))
-    (λ e. rw (e, spanEnd) (omega arith))
 
 numeral-most : (text : List ℕ) (k : ℕ) → numeralAt 65535 text k .value < 65536
 unfolding numeralAt

@@ -9,7 +9,6 @@ use lib.Dec.{T, eqb, ltb, eqb→eq}
 use lib.ListN.{length, drop, getD}
 use borrow.Author.Tests.{lt-ltb, le-ltb, ltb-true, ltb-false, eq-eqb, ne-eqb}
 use Rattle.ground.proofs.Bools.{bool-cases, and-first, and-second}
-use Rattle.ground.proofs.Outcome.{any-two}
 use Rattle.ground.proofs.Rest.{rest-cons, rest-end}
 use Rattle.ground.proofs.Regions.{length-zeros}
 use Rattle.ground.proofs.Tables.{every, at}
@@ -138,7 +137,3 @@ pub sound-short : (s : List ℕ) → wholeOf s ≡ Sound → length s ≤ 65536
 sound-short s e = bool-cases (ltb 65536 (length s))
     (λ h. let z : _≡_ {A = ℕ} 0 1 = ap isSound (sym (whole-long s (ltb-true 65536 (length s) h)) ∙ e) in absurd (omega arith))
     (λ h. ltb-false 65536 (length s) h)
-
--- the contract of `whole` allows one outcome
-pub whole-one : (text : List ℕ) (o p : Whole) → o ≡ wholeOf text → p ≡ wholeOf text → o ≡ p
-whole-one = any-two wholeOf

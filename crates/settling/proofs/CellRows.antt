@@ -10,13 +10,14 @@ use Rattle.ground.specs.Lists.{joined}
 use Rattle.ground.specs.Regions.{pad, zeros}
 use Rattle.ground.proofs.Writes.{sets-append}
 use Rattle.ground.proofs.Regions.{length-pad}
+use Rattle.ground.proofs.Counts.{length-mapped}
 use Rattle.netlist.specs.Netlist.{Cell, cellRuns, runsOf}
 use Rattle.netlist.specs.Tables.{cellRow, cellRows}
 use Rattle.netlist.proofs.Lengths.{length-cellRows}
 use Rattle.saying.specs.Notes.{CellNote, cellNote, cellsSaid, spelled, Spells, SpellCells, none, more}
 use Rattle.settling.specs.Settling.{CellHere, cellStarted, cellLaid, cellNext, cellStrings, CellsNoted, CellsSettled}
 use Rattle.settling.specs.declared.CellStarts.{CellStarts}
-use Rattle.settling.proofs.Left.{length-mapped, Left, left-row, left-more, left-end}
+use Rattle.settling.proofs.Left.{Left, left-row, left-more, left-end}
 
 -- the rows that are left to settle
 abbrev CellRowsLeft : List CellNote → ℕ → ℕ → ℕ → List ℕ → CellStarts → List CellNote → Type 0

@@ -10,11 +10,12 @@ use Rattle.ground.specs.Lists.{joined}
 use Rattle.ground.specs.Regions.{pad, zeros}
 use Rattle.ground.proofs.Writes.{sets-append}
 use Rattle.ground.proofs.Regions.{length-pad}
+use Rattle.ground.proofs.Counts.{length-mapped}
 use Rattle.netlist.specs.Tables.{ioRow, ioRows}
 use Rattle.netlist.proofs.Lengths.{length-ioRows}
 use Rattle.saying.specs.Notes.{IoNote, ioNote, iosSaid, spelled, Spells, SpellIos, none, more}
 use Rattle.settling.specs.Settling.{IoHere, ioStarted, ioLaid, ioNext, ioStrings, IosNoted, IosSettled}
-use Rattle.settling.proofs.Left.{length-mapped, Left, left-row, left-more, left-end}
+use Rattle.settling.proofs.Left.{Left, left-row, left-more, left-end}
 
 -- the rows that are left to settle
 abbrev IoRowsLeft : List IoNote → ℕ → ℕ → ℕ → List ℕ → ℕ → List IoNote → Type 0

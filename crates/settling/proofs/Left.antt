@@ -10,10 +10,6 @@ use lib.ListN.{length, take, drop, length-append}
 use lib.Seq.{take-at, drop-at, drop-drop}
 use Rattle.ground.specs.Lists.{joined}
 
-pub length-mapped : {A B : Type 0} (f : A → B) (xs : List A) → length (map f xs) ≡ length xs
-length-mapped f [] = refl
-length-mapped f (x ∷ xs) = ap suc (length-mapped f xs)
-
 -- row i is the first of the rows left; `note` is a row as it stands, `laid` the rows that are to stand
 pub record Left {A : Type 0} (w : ℕ) (note : A → List ℕ) (laid : List A → List ℕ) (n i : ℕ) (table final : List ℕ) (rest : List A) : Type 0 where
   pub front : List ℕ

@@ -10,13 +10,14 @@ use Rattle.ground.specs.Lists.{joined}
 use Rattle.ground.specs.Regions.{pad, zeros}
 use Rattle.ground.proofs.Writes.{sets-append}
 use Rattle.ground.proofs.Regions.{length-pad}
+use Rattle.ground.proofs.Counts.{length-mapped}
 use Rattle.netlist.specs.Netlist.{metaStrings, membersOf, attrBitsOf}
 use Rattle.netlist.specs.Tables.{metaRow, metaRows}
 use Rattle.netlist.proofs.Lengths.{length-metaRows}
 use Rattle.saying.specs.Notes.{MetaNote, metaNote, metasSaid, spelled, Spells, SpellMetas, none, more}
 use Rattle.settling.specs.Settling.{MetaHere, metaStarted, metaLaid, metaNext, MetasNoted, MetasSettled}
 use Rattle.settling.specs.declared.Starts.{Starts}
-use Rattle.settling.proofs.Left.{length-mapped, Left, left-row, left-inside, left-some, left-more, left-end}
+use Rattle.settling.proofs.Left.{Left, left-row, left-inside, left-some, left-more, left-end}
 
 -- what is left to settle gives what the whole gives
 pub record MetasLeft (text : List ℕ) (ns : List MetaNote) (strings₀ : List ℕ) (n i : ℕ) (metas strings : List ℕ) (so : Starts) : Type 0 where

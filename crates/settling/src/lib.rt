@@ -1,6 +1,7 @@
 // Settling: when all of a text is read, the notes of its rows become the rows of docs/LAYOUT.md: every start is filled in, and the
 // strings are laid one behind the other in the order of the canonical text. Saying stands below it, reading above.
 use strings::fill;
+use words::wide;
 ghost use mathlib.Core.Path.{_≡_};
 ghost use mathlib.Core.List.{List};
 ghost use Prim.Native.Nat.{ℕ, _+_, _*_, _<_, _≤_};
@@ -20,12 +21,6 @@ pub struct Starts {
 pub struct CellStarts {
     pub strings: usize,
     pub runs: usize,
-}
-
-fn wide(x: u32) -> usize
-    ensures { λ r. ⌜ (r ≡ x) × (r < 4294967296) ⌝ }
-{
-    x as usize
 }
 
 fn word(x: usize) -> u32

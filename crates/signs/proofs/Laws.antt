@@ -184,3 +184,11 @@ module _ (m : ℕ) (s : List ℕ) (i : ℕ) (h : i < length s) where
   pub quoted-on : (n : ℕ) → eqb (getD s i 0) 34 ≡ false → n ≡ takenAt s i → eqb n 0 ≡ false → quotedFrom m s i ≡ quotedFrom (m + 1) s (i + n)
   unfolding quotedFrom
   quoted-on n o t z = rw (next s i h n o t, z) (counted-more m (sized (stringFrom (drop (i + n) s) 0 (i + n))))
+
+-- a span ends in the text
+pub span-most : (p : ℕ → Bool) (s : List ℕ) (k : ℕ) → spanEnd p s k ≤ k + length s
+unfolding spanEnd
+span-most p [] k = omega arith
+span-most p (b ∷ s) k = bool-cases (p b)
+    (λ e. rw (e, spanEnd) (let h = span-most p s (k + 1) in omega arith))
+    (λ e. rw (e, spanEnd) (omega arith))

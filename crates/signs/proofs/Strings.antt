@@ -11,12 +11,11 @@ use borrow.Author.Tests.{lt-ltb, le-ltb, eq-eqb, ne-eqb, ltb-true, ltb-false, eq
 use Rattle.ground.specs.Choice.{pick}
 use Rattle.ground.specs.Regions.{zeros}
 use Rattle.ground.proofs.Bools.{bool-cases, never-both, and-true, and-first, and-second}
-use Rattle.ground.proofs.Outcome.{any-two}
 use Rattle.ground.proofs.Rest.{rest-end, past-zero}
 use Rattle.ground.proofs.Tables.{at}
 use Rattle.signs.specs.Bytes.{classFrom, classOf, isHex, isRaw, hexOf}
 use Rattle.signs.specs.Pieces.{Str, whole, broken, prefixed, stringFrom, stringAt, bytesIn, decoded, sized}
-use Rattle.signs.specs.Decoding.{Decoding, meantAt, decodedInto}
+use Rattle.signs.specs.Decoding.{meantAt}
 use Rattle.signs.specs.declared.pieces.Meant.{Meant}
 use Rattle.signs.specs.declared.pieces.Quoted.the-variants.{Closed, Malformed}
 use Rattle.signs.proofs.Laws.{string-close, string-escape, string-raw}
@@ -121,13 +120,3 @@ malformed-size broken h = refl
 pub sets-none : (l : List ℕ) (k : ℕ) (xs : List ℕ) → length xs ≡ 0 → sets l k xs ≡ l
 sets-none l k [] h = refl
 sets-none l k (x ∷ xs) h = absurd (omega arith)
-
--- each contract of this module allows one outcome: of `next_byte`, of `fill` and of `decode`
-pub next-byte-one : (text : List ℕ) (k : ℕ) (o p : Meant) → o ≡ meantAt text k → p ≡ meantAt text k → o ≡ p
-next-byte-one text = any-two (meantAt text)
-
-pub fill-one : (text : List ℕ) (from : ℕ) (room o p : List ℕ) → o ≡ sets room 0 (decoded text from) → p ≡ sets room 0 (decoded text from) → o ≡ p
-fill-one text from = any-two (λ room. sets room 0 (decoded text from))
-
-pub decode-one : (text : List ℕ) (from : ℕ) (room : List ℕ) (o p : Decoding) → o ≡ decodedInto text from room → p ≡ decodedInto text from room → o ≡ p
-decode-one text from = any-two (decodedInto text from)

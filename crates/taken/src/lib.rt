@@ -12,10 +12,10 @@ ghost use Rattle.netlist.specs.Rules.{taken, ioNames, namesAs};
 ghost use Rattle.marking.specs.Marks.{markOf};
 ghost use Rattle.saying.specs.Notes.{IoNote, CellNote, ioNote, cellNote, iosSaid, cellsSaid, SpellIos, SpellCells};
 ghost use Rattle.asking.specs.Namesakes.{sameRaw, namesake, ioNamesake, cellNamesake, Sized, IosNoted, CellsNoted, FreshIo, FreshCell, Passes};
-use asking::word_at;
 use marking::mark_kind;
 use marking::mark_more;
 use strings::next_byte;
+use words::word_at;
 
 // Whether two places of the text hold the same byte, one that means itself.
 fn same_raw(text: &[u8], i: usize, j: usize) -> bool

@@ -23,7 +23,7 @@ use Rattle.netlist.specs.Rules.{outputBits, widthsOf, valid}
 use Rattle.netlist.proofs.Lengths.{cell-fits}
 use Rattle.cells.specs.Operands.{bitsFrom}
 use Rattle.cells.proofs.Linking.{length-bits}
-use Rattle.cells.proofs.Counts.{kind-count}
+use Rattle.cells.proofs.Counts.{kind-makes}
 use Rattle.placing.specs.Placing.{noCell, cellAt, readsOf, inputWidth, inputBits, outputFrom, outputsFrom, apart, placingOf, ringed}
 use Rattle.placing.proofs.Sound.{valid-cell}
 use Rattle.translating.specs.Translation.{Slots, constants, inputRecords, inputSlots, cellMade, cellRecords, outputRecords, slotsOf, translation, cellSum, recordSum}
@@ -128,7 +128,7 @@ module _ (N : Netlist) (v : valid N ≡ true) where
       let p = or-false (eqb (c .kind) inputKind) (eqb (c .kind) outputKind) h in
       let f : Fits (kindAt (c .kind)) (c .width) (length (bitsFrom slots (c .a))) (length (bitsFrom slots (c .b))) (length (bitsFrom slots (c .c))) =
       rw (length-bits slots (c .a), length-bits slots (c .b), length-bits slots (c .c)) (cell-fits (widthsOf (N .cells)) (length (N .metas)) c (valid-cell N v row l)) in
-      kind-count k (c .width) (bitsFrom slots (c .a)) (bitsFrom slots (c .b)) (bitsFrom slots (c .c)) (c .kind) (p .0) (p .1) f
+      kind-makes k (c .width) (bitsFrom slots (c .a)) (bitsFrom slots (c .b)) (bitsFrom slots (c .c)) (c .kind) (p .0) (p .1) f .0
       ∙ ap (λ (m : ℕ). kindAt (c .kind) .records (c .width) m) (length-bits slots (c .a))
 
   cells-count : {P Q : ℕ → Bool} {L : List ℕ} → Placing (readsOf N) n P L Q → ((j : ℕ) → apart N j ≡ true → P j ≡ true) → (k : ℕ) (slots : Slots)

@@ -95,11 +95,6 @@ module _ {old : List ℕ} {place : ℕ} {all new : List ℕ} (first size i : ℕ
   pub numbers-all : size ≤ i → new ≡ sets old place all
   numbers-all h = ended w (up-end first size i h)
 
-pub length-up : (n k : ℕ) → length (upFrom k n) ≡ n
-unfolding upFrom
-length-up zero k = refl
-length-up (suc n) k = ap suc (length-up n (k + 1))
-
 take-up : (k n m : ℕ) → m ≤ n → take m (upFrom k n) ≡ upFrom k m
 unfolding upFrom
 take-up k n zero h = refl

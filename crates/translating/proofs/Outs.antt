@@ -13,7 +13,7 @@ use Rattle.netlist.specs.Rules.{widthsOf, valid}
 use Rattle.netlist.proofs.Lengths.{cell-fits}
 use Rattle.cells.specs.Operands.{bitsFrom}
 use Rattle.cells.proofs.Linking.{length-bits}
-use Rattle.recording.proofs.Fitting.{kind-bits}
+use Rattle.cells.proofs.Counts.{kind-makes}
 use Rattle.placing.specs.Placing.{cellAt, apart}
 use Rattle.placing.proofs.Sound.{valid-cell}
 use Rattle.translating.specs.InTables.{madeFrom}
@@ -27,4 +27,4 @@ made-length N v u row k l h =
     let o = or-false (eqb (c .kind) inputKind) (eqb (c .kind) outputKind) h in
     let f = cell-fits (widthsOf (N .cells)) (length (N .metas)) c (valid-cell N v row l) in
     let g : Fits (kindAt (c .kind)) (c .width) (length (bitsFrom u (c .a))) (length (bitsFrom u (c .b))) (length (bitsFrom u (c .c))) = rw (length-bits u (c .a), length-bits u (c .b), length-bits u (c .c)) f in
-    kind-bits k (c .width) (bitsFrom u (c .a)) (bitsFrom u (c .b)) (bitsFrom u (c .c)) (c .kind) (o .0) (o .1) g
+    kind-makes k (c .width) (bitsFrom u (c .a)) (bitsFrom u (c .b)) (bitsFrom u (c .c)) (c .kind) (o .0) (o .1) g .1

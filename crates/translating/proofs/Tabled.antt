@@ -12,6 +12,7 @@ use Rattle.ground.specs.Lists.{upFrom}
 use Rattle.ground.specs.Regions.{zeros, pad}
 use Rattle.ground.proofs.Bools.{never-both, or-true}
 use Rattle.ground.proofs.Regions.{length-zeros}
+use Rattle.ground.proofs.Counts.{length-up}
 use Rattle.graph.specs.Graph.{mem}
 use Rattle.graph.proofs.Order.{order-placing, placing-unmarked, order-below}
 use Rattle.kinds.specs.Kinds.{inputKind, outputKind}
@@ -43,7 +44,7 @@ use Rattle.translating.specs.Answered.{Given}
 use Rattle.translating.specs.declared.Translated.{Translated}
 use Rattle.translating.proofs.Counting.{translation-count}
 use Rattle.translating.proofs.Ends.{total-within}
-use Rattle.translating.proofs.Listing.{part-up, length-up}
+use Rattle.translating.proofs.Listing.{part-up}
 use Rattle.translating.proofs.Outs.{made-length}
 use Rattle.translating.proofs.HeldSlots.{Placed, placed}
 

@@ -24,6 +24,7 @@ use Rattle.loadlist.specs.Records.{listBytes}
 use Rattle.loadlist.specs.declared.Record.{Record}
 use Rattle.recording.specs.Making.{Puts}
 use Rattle.placing.specs.Placing.{ringed}
+use Rattle.loadlist.proofs.Laws.{bytes-long}
 use Rattle.translating.specs.Translation.{translation, recordSum}
 use Rattle.translating.specs.Outcome.{Outcome, made, cleared, translatedOf, translateOf}
 use Rattle.translating.specs.Answered.{answered, Given}
@@ -34,12 +35,6 @@ use Rattle.translating.specs.declared.Translated.the-variants as transla
 -- work space of its exact length is all cleared
 clear-all : (work : List ℕ) → length work ≡ 8192 → zeros 8192 ≡ cleared work
 clear-all work l = sym (over-all 8192 (zeros 8192) work (omega arith))
-
--- THE ROOM
-bytes-long : (rs : List Record) → length (listBytes rs) ≡ 8 * length rs
-unfolding joined
-bytes-long [] = omega arith
-bytes-long (r ∷ rs) = let l = bytes-long rs in omega arith
 
 module _ (sum n : ℕ) (rs : List Record) (room : List ℕ) (e : n ≡ sum) where
   pub too-many : 8192 < n → Given sum rs room (translated.Refused (refusal 21 (at 0))) room

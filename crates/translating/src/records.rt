@@ -1,6 +1,6 @@
 // The records of the constants, the inputs and the outputs, and the slots of the inputs.
-use crate::operands::gather_slots;
 use assigning::input_width;
+use gathering::slots::gather_slots;
 use loadlist::Record;
 use loadlist::records::put_record;
 use pools::word_of;

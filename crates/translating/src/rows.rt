@@ -1,5 +1,5 @@
 // The records of the cells in their order, with the slots of all bits in one slice.
-use crate::operands::gather_slots;
+use gathering::slots::gather_slots;
 use pools::word_of;
 use recording::make;
 ghost use mathlib.Core.Path.{_≡_};

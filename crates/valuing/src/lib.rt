@@ -12,8 +12,8 @@ ghost use Rattle.cells.specs.Values.{kindValue};
 ghost use Rattle.placing.specs.Placing.{outputFrom};
 ghost use Rattle.assigning.specs.Rows.{widthIn};
 ghost use Rattle.valuing.specs.Row.{cellOf, rowValue, Placed, RowSound, Valued};
-use cells::operands::gather;
 use cells::value::put_value;
+use gathering::bits::gather;
 use pools::word_of;
 
 // A word of a cell's row.

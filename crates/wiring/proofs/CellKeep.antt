@@ -33,6 +33,7 @@ use Rattle.laying.specs.declared.Counts.{Counts}
 use Rattle.laying.specs.declared.CellLaying.the-variants as cellLaying
 use Rattle.noting.specs.Formed.{WiringIn}
 use Rattle.noting.specs.Noted.{metasIn, membersIn, iosIn, cellsIn, runsIn, attrTritsIn, runTritsIn, cellMapIn, metaMapIn, placesIn, MetasHeld, IosHeld, CellsHeld, Tallied, Noted}
+use Rattle.laying.proofs.Counting.{operand-trits}
 use Rattle.wiring.specs.CellAdding.{SameBut, nameFrom, nameSize, nameless, outBits, tallyWith, cellWords, RowFits, PlacesFit, WorkWith, RunsWith, laidOf, Passed, saidWith, Kept}
 use Rattle.noting.specs.declared.Tally.{Tally}
 use Rattle.noting.specs.declared.Noting.the-variants as noting
@@ -41,7 +42,7 @@ use Rattle.wiring.proofs.CellMore.{held-more}
 use Rattle.wiring.proofs.CellPlaces.{string-inside}
 use Rattle.wiring.proofs.CellRooms.{withRow, roomy-more, runs-cramped, tallied-more}
 use Rattle.wiring.proofs.CellTight.{Loose, loose}
-use Rattle.wiring.proofs.CellWidths.{operand-wide, operand-trits}
+use Rattle.wiring.proofs.CellWidths.{operand-wide}
 
 -- THE SAME METADATA AND I/O in other tables
 metas-same : (text : List ℕ) (ms : List Meta) (numbers : List ℕ) {a b c d a′ b′ c′ d′ : List ℕ} → a′ ≡ a → b′ ≡ b → c′ ≡ c → d′ ≡ d → MetasHeld text ms numbers a b c d → MetasHeld text ms numbers a′ b′ c′ d′

@@ -10,6 +10,7 @@ use lib.Seq.{sets}
 use Rattle.ground.specs.Lists.{joined}
 use Rattle.ground.specs.Regions.{pad}
 use Rattle.ground.proofs.Regions.{pad-put}
+use Rattle.ground.proofs.Counts.{length-mapped}
 use Rattle.brackets.specs.declared.Operand.{Operand}
 use Rattle.netlist.specs.Netlist.{Run, Cell, cellRuns, runsOf, runBitsOf}
 use Rattle.netlist.proofs.Lengths.{runBits-append}
@@ -28,10 +29,6 @@ use Rattle.wiring.proofs.CellMaps.{maps-more}
 pub note-wide : (x : CellNote) → length (cellNote x) ≡ 9
 unfolding cellNote
 note-wide x = refl
-
-pub length-mapped : {A B : Type 0} (f : A → B) (xs : List A) → length (map f xs) ≡ length xs
-length-mapped f [] = refl
-length-mapped f (x ∷ xs) = ap suc (length-mapped f xs)
 
 spell-more : {text : List ℕ} {ns : List CellNote} (x : CellNote) → SpellCells text ns → Spells text (x .nameAt) (x .cell .name) → SpellCells text (ns ++ (x ∷ []))
 spell-more x none s = more s none

@@ -9,7 +9,7 @@ use lib.Dec.{leb}
 use lib.ListN.{length, length-append}
 use borrow.Author.Tests.{le-leb, leb-true}
 use Rattle.ground.specs.Lists.{every, allOf, total, joined}
-use Rattle.ground.proofs.Bools.{bool-cases, facts}
+use Rattle.ground.proofs.Bools.{bool-cases, facts, no-facts}
 use Rattle.netlist.specs.Netlist.{Run, Meta, Io, Cell, Netlist, metaStrings, stringsOf, cellRuns, runsOf, runBitsOf}
 use Rattle.netlist.specs.Rules.{outputBits, shortString, roomy}
 use Rattle.netlist.proofs.Laying.{Roomy, roomy-is}
@@ -17,10 +17,6 @@ use Rattle.netlist.proofs.Lengths.{runBits-append}
 use Rattle.noting.specs.Noted.{Tallied}
 use Rattle.noting.specs.declared.Tally.{Tally}
 use Rattle.wiring.proofs.CellLists.{joined-more, total-more, every-last}
-
-no-facts : allOf [] ≡ true
-unfolding allOf
-no-facts = refl
 
 abbrev pub withRow : Netlist → Cell → Netlist
 withRow N c = record { metas = N .metas; ios = N .ios; cells = N .cells ++ (c ∷ []) }

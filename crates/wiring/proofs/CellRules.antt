@@ -14,6 +14,7 @@ use Rattle.ground.specs.Refusals.{refusal}
 use Rattle.ground.proofs.Bools.{bool-cases, or-false}
 use Rattle.ground.specs.declared.Place.{Place}
 use Rattle.ground.specs.declared.Refusal.{Refusal}
+use Rattle.ground.proofs.Counts.{length-mapped}
 use Rattle.kinds.specs.Kinds.{kindAt}
 use Rattle.form.specs.declared.Wiring.{Wiring}
 use Rattle.form.specs.declared.Declared.{Declared}
@@ -33,7 +34,7 @@ use Rattle.noting.specs.declared.Tally.{Tally}
 use Rattle.noting.specs.declared.Noting.{Noting}
 use Rattle.noting.specs.declared.Noting.the-variants as noting
 use Rattle.wiring.proofs.CellKeep.{name-long, out-is}
-use Rattle.wiring.proofs.CellMore.{noted-count, length-mapped}
+use Rattle.wiring.proofs.CellMore.{noted-count}
 use Rattle.wiring.proofs.CellTight.{cramped}
 
 abbrev pub cellSaid : List ℕ → Sofar → Wiring → Said

@@ -17,8 +17,3 @@ use Rattle.laying.proofs.Turning.{bitsOf, bits-wide}
 pub operand-wide : (text : List ℕ) (o : Operand) → operandWidth (operandRuns text o) ≡ widths (partsAt text o)
 unfolding operandRuns
 operand-wide text o = cut-wide (bitsOf text (partsAt text o)) ∙ bits-wide text (operand-in text o)
-
--- and hold no more trits
-pub operand-trits : (text : List ℕ) (o : Operand) → length (runBitsOf (operandRuns text o)) ≤ widths (partsAt text o)
-unfolding operandRuns
-operand-trits text o = let t = cut-trits (bitsOf text (partsAt text o)) in let w = bits-wide text (operand-in text o) in omega arith

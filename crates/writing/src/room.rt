@@ -1,4 +1,5 @@
 // Bytes into lent room, and where a part of a pool ends.
+use words::wide;
 ghost use mathlib.Core.Path.{_≡_};
 ghost use mathlib.Core.List.{List, _∷_, _++_};
 ghost use Prim.Native.Nat.{ℕ, _+_, _<_, min};
@@ -30,12 +31,6 @@ pub fn put_all(room: &mut [u8], n: usize, word: &[u8]) -> usize
         i += 1;
     }
     n
-}
-
-pub fn wide(x: u32) -> usize
-    ensures { λ r. ⌜ (r ≡ x) × (r < 4294967296) ⌝ }
-{
-    x as usize
 }
 
 // Where a part of a pool ends: at its own end, or at the pool's where that comes first.

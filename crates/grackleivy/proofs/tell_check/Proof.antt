@@ -3,8 +3,8 @@ use Rattle.grackleivy.proofs.tell_check.Statement.{statement}
 use Rattle.grackleivy.proofs.tell_check.Tie as tie
 use Rattle.grackleivy.proofs.tell_check.Reads as reads
 use Rattle.grackleivy.proofs.tell_check.Lts as lts
-use Rattle.grackleivy.proofs.accepted.Reads as accepted-reads
-use Rattle.grackleivy.proofs.told_by.Reads as told-by-reads
+use Rattle.textlib.proofs.accepted.Reads as accepted-reads
+use Rattle.textlib.proofs.told_by.Reads as told-by-reads
 
 -- src/lib.rt:204:26
 enum-told : tie.Need-enum-told

@@ -3,8 +3,8 @@ use Rattle.grackleivy.proofs.tell_read.Statement.{statement}
 use Rattle.grackleivy.proofs.tell_read.Tie as tie
 use Rattle.grackleivy.proofs.tell_read.Reads as reads
 use Rattle.grackleivy.proofs.tell_read.Lts as lts
-use Rattle.grackleivy.proofs.accepted.Reads as accepted-reads
-use Rattle.grackleivy.proofs.told_by.Reads as told-by-reads
+use Rattle.textlib.proofs.accepted.Reads as accepted-reads
+use Rattle.textlib.proofs.told_by.Reads as told-by-reads
 
 -- src/lib.rt:152:27
 enum-told : tie.Need-enum-told

@@ -7,11 +7,11 @@ use Rattle.numerals.proofs.ended.Tie as tie
 returns : tie.Need-returns
 returns c = search tests
 
-cast-t5 : tie.Need-cast-t5
-cast-t5 c = search needs
+cast-t6 : tie.Need-cast-t6
+cast-t6 c = search needs
 
 returns-2 : tie.Need-returns-2
 returns-2 c = search tests
 
 pub ended-spec : {M : Type 1} → statement M
-ended-spec = tie.close (tie.spec returns cast-t5 returns-2)
+ended-spec = tie.close (tie.spec returns cast-t6 returns-2)

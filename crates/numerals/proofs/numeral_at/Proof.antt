@@ -30,7 +30,7 @@ grown-requires : tie.Need-grown-requires Inv-loop μ-loop
 grown-requires c κs = let p = c .before .before .before .before in
     let i = p .loop .i in
     let d = digit-range (getD (p .before .before .args .text .now) i 0) (omega (arith, c .before .before .shared-slice-known2 .given i)) (cc) in
-    (p .before .before .pre, p .loop .inv .0, d .0, d .1)
+    (p .loop .inv .0, d .0, d .1)
 
 add-i : tie.Need-add-i Inv-loop μ-loop
 add-i c = search needs

@@ -7,7 +7,7 @@ use Rattle.resolving.proofs.resolves.Statement.{statement}
 use Rattle.resolving.proofs.resolves.Tie as tie
 use Rattle.resolving.proofs.resolves.Reads as reads
 use Rattle.resolving.proofs.resolves.Lts as lts
-use Rattle.asking.proofs.word_at.Reads as word-at-reads
+use Rattle.words.proofs.word_at.Reads as word-at-reads
 
 -- src/lib.rt:55:28
 cast-word-at : tie.Need-cast-word-at

@@ -4,7 +4,7 @@ use Rattle.resolving.proofs.row_word.Statement.{statement}
 use Rattle.resolving.proofs.row_word.Tie as tie
 use Rattle.resolving.proofs.row_word.Reads as reads
 use Rattle.resolving.proofs.row_word.Lts as lts
-use Rattle.asking.proofs.word_at.Reads as word-at-reads
+use Rattle.words.proofs.word_at.Reads as word-at-reads
 
 -- src/lib.rt:32:9
 returns : tie.Need-returns

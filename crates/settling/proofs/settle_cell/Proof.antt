@@ -7,7 +7,7 @@ use Rattle.settling.proofs.settle_cell.Tie as tie
 use Rattle.settling.proofs.settle_cell.Reads as reads
 use Rattle.settling.proofs.settle_cell.Lts as lts
 use Rattle.settling.proofs.lay_string.Reads as lay-string-reads
-use Rattle.settling.proofs.wide.Reads as wide-reads
+use Rattle.words.proofs.wide.Reads as wide-reads
 use Rattle.settling.proofs.word.Reads as word-reads
 
 -- src/lib.rt:124:32

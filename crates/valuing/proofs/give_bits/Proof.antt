@@ -5,7 +5,7 @@ use Rattle.valuing.proofs.give_bits.Statement.{statement}
 use Rattle.valuing.proofs.give_bits.Tie as tie
 use Rattle.valuing.proofs.give_bits.Reads as reads
 use Rattle.valuing.proofs.give_bits.Lts as lts
-use Rattle.cells.proofs.operands.gather.Reads as gather-reads
+use Rattle.gathering.proofs.bits.gather.Reads as gather-reads
 use Rattle.valuing.proofs.word_in.Reads as word-in-reads
 
 -- src/lib.rt:143:9

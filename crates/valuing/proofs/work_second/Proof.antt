@@ -8,7 +8,7 @@ use Rattle.valuing.proofs.work_second.Statement.{statement}
 use Rattle.valuing.proofs.work_second.Tie as tie
 use Rattle.valuing.proofs.work_second.Reads as reads
 use Rattle.valuing.proofs.work_second.Lts as lts
-use Rattle.cells.proofs.operands.gather.Reads as gather-reads
+use Rattle.gathering.proofs.bits.gather.Reads as gather-reads
 use Rattle.valuing.proofs.second_run.Reads as second-run-reads
 use Rattle.valuing.proofs.word_in.Reads as word-in-reads
 use Rattle.valuing.proofs.work_third.Reads as work-third-reads

@@ -7,7 +7,7 @@ use Rattle.valuing.proofs.work_third.Statement.{statement}
 use Rattle.valuing.proofs.work_third.Tie as tie
 use Rattle.valuing.proofs.work_third.Reads as reads
 use Rattle.valuing.proofs.work_third.Lts as lts
-use Rattle.cells.proofs.operands.gather.Reads as gather-reads
+use Rattle.gathering.proofs.bits.gather.Reads as gather-reads
 use Rattle.valuing.proofs.put_row.Reads as put-row-reads
 use Rattle.valuing.proofs.third_run.Reads as third-run-reads
 use Rattle.valuing.proofs.word_in.Reads as word-in-reads

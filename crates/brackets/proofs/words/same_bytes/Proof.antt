@@ -4,7 +4,7 @@ use mathlib.Core.Path.{_≡_, refl, _∙_}
 use native.Mathlib.Omega.{arith}
 use lib.ListN.{length, drop}
 use Rattle.ground.specs.Text.{same}
-use Rattle.brackets.proofs.Letters.{same-on, same-differ, same-short, same-long, same-end}
+use Rattle.ground.proofs.Same.{same-on, same-differ, same-short, same-long, same-end}
 use borrow.Author.Needs.{needs}
 use Rattle.brackets.proofs.words.same_bytes.Statement.{statement}
 use Rattle.brackets.proofs.words.same_bytes.Tie as tie

@@ -3,7 +3,7 @@ use native.Mathlib.Omega.{arith}
 use mathlib.Core.Path.{_≡_, refl, sym, _∙_}
 use lib.ListN.{length, drop}
 use Rattle.ground.specs.Text.{same}
-use Rattle.checking.proofs.Laws.{same-on, same-off, same-end, same-long}
+use Rattle.ground.proofs.Same.{same-on, same-differ as same-off, same-end, same-lengths as same-long}
 use borrow.Author.Needs.{needs}
 use Rattle.checking.proofs.names.same_bytes.Statement.{statement}
 use Rattle.checking.proofs.names.same_bytes.Tie as tie
