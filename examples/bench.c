@@ -1,6 +1,6 @@
 /* A netlist from standard input, translated and run as a bench would: once for each setting of its input bits given as an argument.
  *
- *    rt staticlib grackleivy
+ *    include/library
  *    cc -Iinclude examples/bench.c target/staticlib/libgrackleivy.a -o bench
  *    ./bench 00010100 1111X000 < examples/adder.ir
  *

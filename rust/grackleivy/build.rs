@@ -17,8 +17,8 @@ fn main() {
         return;
     }
     if !archive.is_file() {
-        println!("cargo:warning=target/staticlib/libgrackleivy.a is missing; run: rt staticlib grackleivy");
-        eprintln!("{} is missing; run: rt staticlib grackleivy", archive.display());
+        println!("cargo:warning=target/staticlib/libgrackleivy.a is missing; run: include/library");
+        eprintln!("{} is missing; run: include/library", archive.display());
         exit(1);
     }
     println!("cargo:rustc-link-search=native={}", folder.display());

@@ -13,8 +13,8 @@ use crate::jobs::told_to;
 use crate::tables::answer_tables;
 use crate::tables::refuse;
 pub use jobs::Job;
+use reader::read_text;
 use reading::Read;
-use reading::read_text;
 
 // A netlist is read into tables first.
 fn answer_text(job: Job, path: &[u8], text: &[u8], word: &[u8]) -> bool {

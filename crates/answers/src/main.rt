@@ -4,9 +4,9 @@
 // to standard error, as for a clerk.
 use answering::Job;
 use answering::answer;
+use finding::find;
 use libc::STDIN_FILENO;
 use libc::STDOUT_FILENO;
-use worked::find;
 use worked::put_text;
 
 fn byte_at(bytes: &[u8], at: usize) -> u8 {

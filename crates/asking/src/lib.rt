@@ -1,7 +1,6 @@
-// Asking: what reading asks of a declaration, over the rows noted so far: what a metadata reference names (rule 10), whether a range is bad
-// (rule 11); and the definitions of when a name is taken (rule 9). It promises that each answer is the one that the rules of the netlist
-// give of what the notes say. The notes stand below it; the names, in taken, and reading above.
-pub mod ranges;
+// Asking: what reading asks of a declaration, over the rows noted so far: what a metadata reference names (rule 10); and the definitions
+// of when a name is taken (rule 9). It promises that each answer is the one that the rules of the netlist give of what the notes say. The
+// notes stand below it; names, ranges and reading above.
 pub mod refs;
 
 use ground::Place;

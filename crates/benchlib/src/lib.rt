@@ -1,5 +1,5 @@
 // The C library's functions of the logic: an evaluation, a translation and a run, their answers told as numbers. It promises what
-// evaluating, translating and running promise. The functions that callers in C name stand above it, in grackleivy.
+// evaluating, translating and running promise.
 use evaluating::Evaluated;
 use evaluating::evaluate;
 use ground::Refusal;
@@ -51,7 +51,8 @@ fn tell_evaluation(r: Evaluated) -> Gave
 }
 
 // The evaluation of the netlist in three lent tables: refusal 1, 15, 20, 23 or 24.
-pub fn bench_evaluate(
+#[no_mangle]
+pub extern "C" fn grackle_evaluate(
     rows: &[u32],
     strings: &[u8],
     trits: &[u8],
@@ -74,7 +75,8 @@ fn tell_translation(r: Translated) -> Gave
 }
 
 // The load list of the netlist in three lent tables: refusal 1, 15, 20, 21 or 24.
-pub fn bench_translate(
+#[no_mangle]
+pub extern "C" fn grackle_translate(
     rows: &[u32],
     strings: &[u8],
     trits: &[u8],
@@ -96,7 +98,8 @@ fn tell_run(r: Ran) -> Gave
 }
 
 // The run of a load list: refusal 1, 22, 23 or 24.
-pub fn bench_run(list: &[u8], ins: &[u8], outs: &mut [u8], work: &mut [u8]) -> Gave
+#[no_mangle]
+pub extern "C" fn grackle_run(list: &[u8], ins: &[u8], outs: &mut [u8], work: &mut [u8]) -> Gave
     ensures { λ r. ⌜ after r (now (outs .exit)) (now (work .exit)) ≡ afterRun (runOf (now (list .entry)) (now (ins .entry)) (now (outs .entry)) (now (work .entry))) ⌝ }
 {
     tell_run(run(list, ins, outs, work))

@@ -1,4 +1,3 @@
-pub mod Letters
 pub mod Measures
 pub mod Outcomes
 pub mod Shorts

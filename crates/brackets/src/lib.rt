@@ -1,9 +1,6 @@
-// Brackets: what operands, sets and their parts are, as definitions and as values; the words of a declaration, and tokens taken as parts,
-// strings and references. It promises that each is what the definitions of specs/ give. What stands between brackets is measured and
-// walked over in enclosed, above it; the tokens stand below.
-pub mod parts;
-pub mod words;
-
+// Brackets: what operands, sets and their parts are, and the words of a declaration, as definitions, values and laws. The code that takes
+// tokens as parts stands in tokenparts, that of words in keywords, and what stands between brackets is measured and walked over in
+// enclosed and walks, all above it; the tokens stand below.
 use ground::Place;
 use ground::Refusal;
 use lexis::Reader;

@@ -18,6 +18,7 @@ use crate::tables::text_room;
 use crate::telling::tell_unless;
 use checking::check_tables;
 use checking::lookup_io;
+use finding::find;
 use ground::Place;
 use ground::Refusal;
 use libc::STDOUT_FILENO;
@@ -25,11 +26,10 @@ use netlist::Checked;
 use netlist::Found;
 use printing::Printed;
 use printing::print_text;
+use reader::read_text;
 use reading::Read;
-use reading::read_text;
-use worked::find;
+use tellrefused::tell_refused;
 use worked::put_text;
-use worked::tell_refused;
 
 fn as_word(n: u64) -> u32 {
     if n < 4294967296 {

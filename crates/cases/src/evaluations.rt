@@ -17,11 +17,11 @@ use crate::telling::tell_unless;
 use crate::telling::tell_unwritten;
 use evaluating::Evaluated;
 use evaluating::evaluate;
+use finding::find;
+use reader::read_text;
 use reading::Read;
-use reading::read_text;
-use worked::find;
+use tellrefused::tell_refused;
 use worked::put_text;
-use worked::tell_refused;
 
 fn gives(r: Evaluated, n: usize) -> bool {
     match r {

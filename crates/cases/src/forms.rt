@@ -1,13 +1,13 @@
 // The worked texts of the text layer. Each line says one text (`worked` tells how). The answer is what the text layer answers: the number
 // of declarations by their form, or the first refusal 2 to 8 with its place.
+use finding::find;
 use form::Form;
 use ground::Place;
 use lexis::Reader;
 use libc::STDOUT_FILENO;
 use scanning::Whole;
-use worked::find;
+use tellrefused::tell_refused;
 use worked::put_text;
-use worked::tell_refused;
 
 fn tell_found(count: usize) {
     io::write_all(STDOUT_FILENO, b"ok ");

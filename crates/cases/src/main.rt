@@ -18,11 +18,11 @@ mod tables;
 mod telling;
 mod translations;
 
+use finding::find;
 use libc::STDIN_FILENO;
 use libc::STDOUT_FILENO;
 use rooms::byte_at;
 use telling::tell_unless;
-use worked::find;
 ghost use mathlib.Core.Path.{_≡_};
 ghost use lib.ListN.{length};
 

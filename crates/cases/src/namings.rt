@@ -17,14 +17,14 @@ use crate::telling::tell_hex;
 use crate::telling::tell_one;
 use crate::telling::tell_unless;
 use crate::telling::tell_unwritten;
+use finding::find;
 use libc::STDOUT_FILENO;
 use naming::Named;
 use naming::full_name;
+use reader::read_text;
 use reading::Read;
-use reading::read_text;
-use worked::find;
+use tellrefused::tell_refused;
 use worked::put_text;
-use worked::tell_refused;
 
 fn tell_escaped(b: u8) {
     io::write_all(STDOUT_FILENO, b"\\x");

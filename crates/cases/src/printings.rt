@@ -20,15 +20,15 @@ use crate::tables::text_room;
 use crate::telling::tell_many;
 use crate::telling::tell_one;
 use crate::telling::tell_unless;
+use finding::find;
 use ground::Refusal;
 use libc::STDOUT_FILENO;
 use printing::Printed;
 use printing::print_text;
+use reader::read_text;
 use reading::Read;
-use reading::read_text;
-use worked::find;
+use tellrefused::tell_refused;
 use worked::put_text;
-use worked::tell_refused;
 ghost use mathlib.Core.Path.{_≡_};
 ghost use lib.ListN.{length};
 

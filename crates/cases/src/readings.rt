@@ -13,13 +13,13 @@ use crate::tables::text_room;
 use crate::telling::sum_bytes;
 use crate::telling::sum_words;
 use crate::telling::tell_unless;
+use finding::find;
 use ground::Refusal;
 use libc::STDOUT_FILENO;
+use reader::read_text;
 use reading::Read;
-use reading::read_text;
-use worked::find;
+use tellrefused::tell_refused;
 use worked::put_text;
-use worked::tell_refused;
 
 fn tell_count(count: u32, what: &[u8]) {
     io::print_decimal(STDOUT_FILENO, count as u64);

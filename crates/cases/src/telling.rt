@@ -4,7 +4,7 @@ use crate::rooms::kept;
 use crate::rooms::word_at;
 use ground::Refusal;
 use libc::STDOUT_FILENO;
-use worked::tell_refused;
+use tellrefused::tell_refused;
 ghost use Prim.Native.Nat.{_<_};
 
 pub(crate) fn tell_unless(right: bool, what: &[u8]) {

@@ -7,7 +7,7 @@
 use crate::loads::tell_list;
 use crate::rooms::byte_at;
 use crate::runs::tell_run;
-use worked::find;
+use finding::find;
 
 fn tell_said(line: &[u8], said: &[u8]) {
     if byte_at(line, 0) == 108 {

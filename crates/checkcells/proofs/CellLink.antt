@@ -21,7 +21,7 @@ use Rattle.netlist.specs.Rules.{isByte, isEmpty, runSound, operandSound, runles
 use Rattle.netlist.specs.Tables.{Tables, runRow, runRows, cellRow}
 use Rattle.netlist.specs.View.{word, runIn, runsIn, poolIn, cellIn}
 use Rattle.netlist.proofs.Lengths.{runBits-append}
-use Rattle.checkmeta.specs.Walk.{lies}
+use Rattle.pools.specs.Lying.{lies}
 use Rattle.checkmeta.proofs.Fits.{every-part, none}
 use Rattle.checkcells.specs.Runs.{operandWalk}
 use Rattle.checkcells.specs.Walk.{cellNamed, cellHead, cellPlaced, operandsWalk, judged, outWidth, cellGood}

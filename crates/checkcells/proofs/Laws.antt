@@ -15,7 +15,7 @@ use Rattle.ground.proofs.Bools.{bool-cases, and-true}
 use Rattle.kinds.specs.Kinds.{isKind}
 use Rattle.netlist.specs.Rules.{isTrit, resolves}
 use Rattle.netlist.specs.View.{word}
-use Rattle.checkmeta.specs.Walk.{lies}
+use Rattle.pools.specs.Lying.{lies}
 use Rattle.checkmeta.proofs.Laws.{lies-is}
 use Rattle.checkcells.specs.Runs.{widthsIn, joinsNext, runGood, headGood, runTrits, operandWalk}
 use Rattle.checkcells.specs.Walk.{cellPlaced, cellHead, cellGood, cellsWalk}

@@ -21,7 +21,7 @@ use Rattle.netlist.specs.Rules.{isTrit, resolves, runSound, operandSound}
 use Rattle.netlist.specs.Runs.{joins, longest}
 use Rattle.netlist.specs.Tables.{Tables, runRow, runRows}
 use Rattle.netlist.specs.View.{word, runIn, runsIn}
-use Rattle.checkmeta.specs.Walk.{lies}
+use Rattle.pools.specs.Lying.{lies}
 use Rattle.checkmeta.proofs.Laws.{lies-is}
 use Rattle.checkmeta.proofs.Fits.{part-rest}
 use Rattle.checkcells.specs.Runs.{joinsNext, runGood, headGood, runTrits, operandWalk}

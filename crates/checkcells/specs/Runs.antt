@@ -10,7 +10,7 @@ use Rattle.ground.specs.Lists.{every}
 use Rattle.ground.specs.Regions.{part}
 use Rattle.netlist.specs.Rules.{isTrit, resolves}
 use Rattle.netlist.specs.View.{word}
-use Rattle.checkmeta.specs.Walk.{lies}
+use Rattle.pools.specs.Lying.{lies}
 use Rattle.checkcells.specs.declared.runs.Operand.{Operand}
 use Rattle.checkcells.specs.declared.runs.Operand.the-variants.{Wrong, Wide}
 

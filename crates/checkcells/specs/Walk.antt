@@ -8,7 +8,7 @@ use Rattle.ground.specs.Choice.{pick}
 use Rattle.ground.specs.Regions.{blank}
 use Rattle.kinds.specs.Kinds.{kindAt, isKind, outputKind}
 use Rattle.netlist.specs.View.{word}
-use Rattle.checkmeta.specs.Walk.{lies}
+use Rattle.pools.specs.Lying.{lies}
 use Rattle.checkcells.specs.Runs.{operandWalk}
 use Rattle.checkcells.specs.declared.runs.Operand.{Operand}
 use Rattle.checkcells.specs.declared.runs.Operand.the-variants as operand

@@ -1,12 +1,12 @@
 // Cell rows, one after the other.
 use crate::runs::Operand;
 use crate::runs::operand_of;
-use checkmeta::rows::lies_at;
 use kinds::fits;
 use kinds::has_name;
 use kinds::operands_of;
 use pools::blank_words;
 use pools::both;
+use pools::lies_at;
 use pools::word_of;
 ghost use mathlib.Core.Path.{_≡_};
 ghost use mathlib.Core.Bool.{true, _||_};

@@ -1,6 +1,6 @@
 // Run rows: the constants and the pieces of operands.
-use checkmeta::rows::lies_at;
 use pools::all_trits;
+use pools::lies_at;
 use pools::word_of;
 ghost use mathlib.Core.Path.{_≡_};
 ghost use mathlib.Core.Bool.{_&&_};
@@ -9,7 +9,7 @@ ghost use lib.ListN.{length, drop, getD};
 ghost use Rattle.ground.specs.Lists.{every};
 ghost use Rattle.ground.specs.Regions.{part};
 ghost use Rattle.netlist.specs.Rules.{isTrit, resolves};
-ghost use Rattle.checkmeta.specs.Walk.{lies};
+ghost use Rattle.pools.specs.Lying.{lies};
 ghost use Rattle.checkcells.specs.Runs.{widthsIn, joinsNext, runGood, headGood, runTrits, operandWalk, endOf, wideOf};
 
 // What a walk over the runs of an operand ends with: its width, and where its trits end.

@@ -21,7 +21,7 @@ use Rattle.netlist.specs.Netlist.{Run, Io, Cell}
 use Rattle.netlist.specs.Rules.{isByte, isEmpty, ioSound, shortString, ioNames, namesAs}
 use Rattle.netlist.specs.Tables.{Tables, ioRow, ioRows}
 use Rattle.netlist.specs.View.{word, ioIn, iosIn, cellIn, cellsIn}
-use Rattle.checkmeta.specs.Walk.{lies}
+use Rattle.pools.specs.Lying.{lies}
 use Rattle.checkmeta.proofs.Fits.{fits-word, fits-first, every-part, part-rest, none}
 use Rattle.checking.specs.Names.{ioName, cellName, ioNamesIn, cellNamesIn}
 use Rattle.checking.specs.Walk.{nameWide, ioGood, iosWalk}

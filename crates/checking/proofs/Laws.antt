@@ -19,7 +19,7 @@ use Rattle.ground.proofs.Rest.{rest-cons, rest-end, rest-rest}
 use Rattle.ground.proofs.Same.{same-turned as same-comm}
 use Rattle.netlist.specs.Rules.{taken, distinct}
 use Rattle.netlist.specs.View.{word}
-use Rattle.checkmeta.specs.Walk.{lies}
+use Rattle.pools.specs.Lying.{lies}
 use Rattle.checkmeta.proofs.Laws.{lies-is, part-is}
 use Rattle.checkcells.specs.Walk.{cellPlaced, cellGood, cellsWalk}
 use Rattle.checkcells.specs.declared.cells.Judged.{Judged}

@@ -8,7 +8,7 @@ use Rattle.ground.specs.Choice.{pick}
 use Rattle.ground.specs.Regions.{blank}
 use Rattle.kinds.specs.Kinds.{wide}
 use Rattle.netlist.specs.View.{word}
-use Rattle.checkmeta.specs.Walk.{lies}
+use Rattle.pools.specs.Lying.{lies}
 use Rattle.checking.specs.declared.ios.Upto.{Upto}
 use Rattle.checking.specs.declared.ios.Upto.the-variants.{Wrong, At}
 

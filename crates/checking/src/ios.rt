@@ -1,8 +1,8 @@
 // I/O rows, one after the other.
-use checkmeta::rows::lies_at;
 use kinds::wide;
 use pools::blank_words;
 use pools::both;
+use pools::lies_at;
 use pools::word_of;
 ghost use mathlib.Core.Path.{_≡_};
 ghost use Prim.Native.Nat.{_+_, _*_, _≤_, _<_};

@@ -1,17 +1,16 @@
 // The check of tables (15) and the lookup of I/O (18). It promises that lent tables are called good exactly where they are the layout
 // of a valid netlist, and that a lookup gives the first I/O row of the asked name. The checks of metadata and of cells stand below it;
 // whatever takes tables stands above.
-mod blank;
 pub mod ios;
 pub mod names;
 pub mod parts;
 
-use crate::blank::no_bytes;
 use crate::ios::Upto;
 use crate::names::io_named;
 use crate::parts::cells_part;
 use crate::parts::ios_part;
 use crate::parts::metas_part;
+use blanks::no_bytes;
 use ground::Place;
 use ground::Refusal;
 use netlist::Checked;

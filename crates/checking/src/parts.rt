@@ -1,10 +1,10 @@
 // The tables part by part: metadata, I/O, cells; each behind the strings of the one before.
-use crate::blank::no_bytes;
-use crate::blank::no_words;
 use crate::ios::Upto;
 use crate::ios::ios_good;
 use crate::names::cells_distinct;
 use crate::names::ios_distinct;
+use blanks::no_bytes;
+use blanks::no_words;
 use checkcells::cells::Cells;
 use checkcells::cells::cells_good;
 use checkmeta::rows::Metas;

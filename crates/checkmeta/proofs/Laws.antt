@@ -16,7 +16,8 @@ use Rattle.ground.proofs.Rest.{rest-rest}
 use Rattle.netlist.specs.Rules.{refers}
 use Rattle.netlist.specs.View.{word}
 use Rattle.checkmeta.specs.Fields.{kindsIn}
-use Rattle.checkmeta.specs.Walk.{lies, placed, metaGood, metasWalk}
+use Rattle.checkmeta.specs.Walk.{placed, metaGood, metasWalk}
+use Rattle.pools.specs.Lying.{lies}
 use Rattle.checkmeta.specs.declared.rows.Metas.{Metas}
 use Rattle.checkmeta.specs.declared.rows.Metas.the-variants.{Wrong, Ends}
 

@@ -19,7 +19,8 @@ use Rattle.netlist.specs.Rules.{refers, isMember, isByte, isTrit, isNumber, met
 use Rattle.netlist.specs.Tables.{Tables, metaRow, metaRows}
 use Rattle.netlist.specs.View.{word, metaIn, metasIn}
 use Rattle.checkmeta.specs.Fields.{kindSound, nameSound, textSound, membersSound, bitsSound, kindsIn}
-use Rattle.checkmeta.specs.Walk.{sizesSound, valuesSound, lies, placed, metaGood, metasWalk}
+use Rattle.checkmeta.specs.Walk.{sizesSound, valuesSound, placed, metaGood, metasWalk}
+use Rattle.pools.specs.Lying.{lies}
 use Rattle.checkmeta.specs.declared.rows.Metas.{Metas}
 use Rattle.checkmeta.specs.declared.rows.Metas.the-variants.{Wrong, Ends}
 use Rattle.checkmeta.proofs.ByField.{Fields, Held, shortMeta, fields-sound, sound-fields}

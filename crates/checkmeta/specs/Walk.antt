@@ -4,6 +4,7 @@ use mathlib.Core.Bool.{Bool, true, false, _&&_}
 use mathlib.Core.List.{List}
 use lib.Dec.{leb, eqb}
 use lib.ListN.{drop}
+use Rattle.pools.specs.Lying.{lies}
 use Rattle.ground.specs.Choice.{pick}
 use Rattle.ground.specs.Lists.{every}
 use Rattle.ground.specs.Regions.{blank, part}
@@ -22,11 +23,6 @@ abbrev pub valuesSound : List ℕ → List ℕ → Bool
 valuesSound kinds row =
     (insideSound kinds (word row 0) (word row 9) && sourceSound kinds (word row 0) (word row 10))
     && (numberSound (word row 0) (word row 11) && rangeSound (word row 0) (word row 12) (word row 13) (word row 14) (word row 15))
-
--- "Strings, set members and runs lie in the order of the canonical text, without gaps or sharing": what a row names begins where
--- the pool so far ends, and the pool, of so much room, holds it
-abbrev pub lies : ℕ → ℕ → ℕ → ℕ → Bool
-lies at room start size = eqb start at && leb (at + size) room
 
 -- the next string, member and trit lie at s, m and b
 abbrev pub placed : ℕ → ℕ → ℕ → List ℕ → Bool

@@ -12,12 +12,13 @@ use crate::refs::source_sound;
 use pools::all_trits;
 use pools::blank_words;
 use pools::both;
+use pools::lies_at;
 use pools::word_of;
 ghost use mathlib.Core.Path.{_≡_};
 ghost use Prim.Native.Nat.{_+_, _*_, _≤_, _<_};
 ghost use lib.ListN.{length, drop, getD};
 ghost use Rattle.checkmeta.specs.Fields.{kindsIn};
-ghost use Rattle.checkmeta.specs.Walk.{sizesSound, valuesSound, lies, placed, metaGood, metasWalk, stringsUpto};
+ghost use Rattle.checkmeta.specs.Walk.{sizesSound, valuesSound, placed, metaGood, metasWalk, stringsUpto};
 
 // What a walk over metadata rows ends with: where the strings, the members and the trits end.
 pub enum Metas {
@@ -56,17 +57,6 @@ fn values_sound(metas: &[u32], n: usize, row: &[u32]) -> bool
             range_sound(kind, row[12], row[13], row[14], row[15]),
         ),
     )
-}
-
-// Whether what a row names begins where the pool so far ends, and is there.
-pub fn lies_at(at: usize, room: usize, start: usize, size: usize) -> bool
-    requires { ⌜ (at < 4294967296) × (size < 17179869184) ⌝ }
-    ensures { λ r. ⌜ r ≡ lies at room start size ⌝ }
-{
-    if start != at {
-        return false;
-    }
-    at + size <= room
 }
 
 fn is_placed(row: &[u32], s: usize, m: usize, b: usize) -> bool

@@ -6,7 +6,7 @@ use form::Declared;
 use form::Wiring;
 use kinds::has_name;
 use marking::is_new;
-use taken::name_mark;
+use namemarks::name_mark;
 ghost use mathlib.Core.Path.{_≡_};
 ghost use mathlib.Core.Bool.{true};
 ghost use Rattle.kinds.specs.Kinds.{kindAt};

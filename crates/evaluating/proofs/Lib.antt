@@ -5,6 +5,5 @@ pub mod Shown
 pub mod Ways
 pub mod Going
 pub mod Tables
-pub mod Ordered
 pub mod Settling
 pub mod Entry

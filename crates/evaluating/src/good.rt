@@ -1,29 +1,27 @@
 // The evaluation of sound tables in their regions: 20, 23, 24, or the output bits.
-ghost use mathlib.Core.Path.{_≡_};
-ghost use mathlib.Core.Bool.{Bool};
-ghost use mathlib.Core.List.{List};
-ghost use Prim.Native.Nat.{ℕ, _<_, _≤_};
-ghost use lib.ListN.{length, take, getD};
-ghost use Rattle.ground.specs.Refusals.{at, refusal};
-ghost use Rattle.ground.specs.Regions.{zeros};
-ghost use Rattle.loadlist.specs.Run.{assigns};
-ghost use Rattle.cells.specs.Held.{heldRuns};
-ghost use Rattle.placing.specs.InTables.{Inside, PlacedAll};
-ghost use Rattle.assigning.specs.Rows.{rowsTotal, inputIn};
-ghost use Rattle.evaluating.specs.InTables.{evaluationIn};
-ghost use Rattle.evaluating.specs.Sound.{TableSound};
-ghost use Rattle.evaluating.specs.Outcome.{made};
-ghost use Rattle.evaluating.specs.Answered.{Answers, Given};
-ghost use Rattle.evaluating.specs.declared.Evaluated.the-variants as evaluated;
 use crate::Evaluated;
 use crate::settle::settle;
 use assigning::copy_bits;
 use assigning::count_inputs;
 use ground::Place;
 use ground::Refusal;
-use placing::Placed;
+use ordering::order_rows;
 use placing::place;
 use pools::all_trits;
+ghost use mathlib.Core.Path.{_≡_};
+ghost use Prim.Native.Nat.{ℕ, _<_, _≤_};
+ghost use lib.ListN.{length, take, getD};
+ghost use Rattle.ground.specs.Refusals.{at, refusal};
+ghost use Rattle.ground.specs.Regions.{zeros};
+ghost use Rattle.loadlist.specs.Run.{assigns};
+ghost use Rattle.cells.specs.Held.{heldRuns};
+ghost use Rattle.placing.specs.InTables.{Inside};
+ghost use Rattle.assigning.specs.Rows.{rowsTotal, inputIn};
+ghost use Rattle.evaluating.specs.InTables.{evaluationIn};
+ghost use Rattle.evaluating.specs.Sound.{TableSound};
+ghost use Rattle.evaluating.specs.Outcome.{made};
+ghost use Rattle.evaluating.specs.Answered.{Answers, Given};
+ghost use Rattle.evaluating.specs.declared.Evaluated.the-variants as evaluated;
 
 pub(crate) fn refused(number: u8) -> Evaluated
     ensures { λ r. ⌜ r ≡ evaluated.Refused (refusal number (at 0)) ⌝ }
@@ -42,20 +40,6 @@ fn fits(cells: &[u32], n: usize, ins: &[u8]) -> bool
         return false;
     }
     all_trits(ins)
-}
-
-// The order of placing, with the front of the work space for its marks.
-pub fn order_rows(
-    cells: &[u32],
-    runs: &[u32],
-    n: usize,
-    order: &mut [u32],
-    work: &mut [u32],
-) -> Placed
-    requires { ⌜ Inside (now cells) (now runs) n × (now order ≡ zeros 512) × (now work ≡ zeros 8192) ⌝ }
-    ensures { λ r. ⌜ PlacedAll (now (cells .entry)) (now (runs .entry)) n (now (order .exit)) (zeros 1026) r × (now (work .exit) ≡ zeros 8192) ⌝ }
-{
-    place(cells, runs, n, order, &mut work[0..1026])
 }
 
 // The output bits, worked out first and then given, as far as there is room: a refusal leaves the room as it was.

@@ -1,6 +1,6 @@
 // The last step of a reading whose pieces all resolve: numbers become rows, and notes become the rows of the layout.
 use noting::Tally;
-use resolving::row_runs;
+use rowruns::row_runs;
 use settling::settle_cells;
 use settling::settle_ios;
 use settling::settle_metas;

@@ -15,23 +15,24 @@ use brackets::Operand;
 use brackets::Ref;
 use brackets::Str;
 use brackets::Taken;
-use brackets::parts::mark_before;
-use brackets::parts::ref_of;
-use brackets::parts::str_of;
-use brackets::words::is_mark;
-use brackets::words::is_sort;
-use brackets::words::is_word;
-use brackets::words::kind_of;
 use enclosed::measures::operand_at;
-use enclosed::measures::set_at;
 use ground::Place;
 use ground::Refusal;
+use keywords::is_mark;
+use keywords::is_sort;
+use keywords::is_word;
+use keywords::kind_of;
 use kinds::has_name;
 use kinds::operands_of;
 use lexis::Reader;
 use lexis::Step;
 use lexis::Token;
+use sets::set_at;
 use signs::classes::classes;
+use spots::byte_with;
+use tokenparts::mark_before;
+use tokenparts::ref_of;
+use tokenparts::str_of;
 ghost use mathlib.Core.Path.{_≡_};
 ghost use mathlib.Core.Bool.{true};
 ghost use Prim.Native.Nat.{_≤_};
@@ -72,7 +73,7 @@ fn mark_at(t: &[u8; 256], text: &[u8], b: u8, reader: Reader) -> Step
     requires { ⌜ (now t ≡ table) × (isSpecial b ≡ true) ⌝ }
     ensures { λ r. ⌜ r ≡ markAt (now (text .entry)) b (reader .next .at) ⌝ }
 {
-    let end = reader.byte_with(t, text, b);
+    let end = byte_with(t, text, reader, b);
     if 0 < end {
         return mark_before(b, end);
     }
@@ -142,7 +143,7 @@ fn ended(t: &[u8; 256], text: &[u8], token: Token, decl: Decl, reader: Reader) -
 {
     let place = token.place;
     let index = token.value;
-    let end = reader.byte_with(t, text, 10);
+    let end = byte_with(t, text, reader, 10);
     if 0 < end {
         let next = Place { at: end };
         return Form::Took(Declared { place, index, decl }, Reader { next });

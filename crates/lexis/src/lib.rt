@@ -1,6 +1,6 @@
 // Lexis: from bytes to tokens. It promises that each token and each refusal 5 and 6 with its place are those that the definitions of
 // specs/ give. The form of declarations stands above it, the signs that tokens are made of below.
-mod tokens;
+pub mod tokens;
 
 use ground::Place;
 use ground::Refusal;

@@ -1,16 +1,16 @@
 // The check of a load list: record after record, with the numbers that the next input and output must have. It promises, for every list,
 // the place of its first bad record, or its numbers of inputs and outputs, as the definitions of loadlist give them. The run stands above it.
+use listcount::record_count;
 use loadlist::Listed;
 use loadlist::Record;
 use loadlist::records::byte_at;
 use loadlist::records::record_at;
 ghost use mathlib.Core.Path.{_≡_};
-ghost use mathlib.Core.Bool.{Bool, _&&_};
-ghost use Prim.Native.Nat.{ℕ, _+_, _*_, _≤_, _<_};
+ghost use mathlib.Core.Bool.{_&&_};
+ghost use Prim.Native.Nat.{_+_, _*_, _≤_, _<_};
 ghost use lib.Dec.{ltb};
-ghost use lib.ListN.{length, drop};
-ghost use Rattle.loadlist.specs.Records.{recordIn};
-ghost use Rattle.loadlist.specs.Check.{marked, isWhole, firstFits, secondFits, fits, goodRecord, counted, recordCount, listedOf};
+ghost use lib.ListN.{drop};
+ghost use Rattle.loadlist.specs.Check.{marked, isWhole, firstFits, secondFits, fits, goodRecord, counted, listedOf};
 
 // The mark and the byte that is always 0.
 fn marked_at(list: &[u8], k: usize) -> bool
@@ -120,17 +120,6 @@ fn counted_with(op: u8, r: Record, n: usize) -> usize
         return n + 1;
     }
     n
-}
-
-// Records, a part of one counted.
-pub fn record_count(list: &[u8]) -> usize
-    ensures { λ n. ⌜ n ≡ recordCount (now (list .entry)) ⌝ }
-{
-    let n = list.len() / 8;
-    if list.len() % 8 == 0 {
-        return n;
-    }
-    n + 1
 }
 
 // The check: the first bad record's place, or how many inputs and outputs the list has.

@@ -7,11 +7,11 @@ use libc::STDIN_FILENO;
 use libc::STDOUT_FILENO;
 use printing::Printed;
 use printing::print_text;
+use reader::read_text;
 use reading::Read;
-use reading::read_text;
+use tellrefused::tell_refused;
 use translating::Translated;
 use translating::translate;
-use worked::tell_refused;
 
 fn tell(g: Refusal) {
     tell_refused(g);

@@ -3,7 +3,6 @@
 // reading above.
 use asking::Asks;
 use asking::Misnaming;
-use asking::ranges::bad_range;
 use asking::refs::first_misnamed_member;
 use asking::refs::misnames;
 use asking::refs::ref_row;
@@ -25,8 +24,9 @@ use noting::Noting;
 use noting::Ruling;
 use noting::Tally;
 use noting::refuse;
-use walks::tour_of;
-use walks::tour_step;
+use ranges::bad_range;
+use tours::tour_of;
+use tours::tour_step;
 ghost use mathlib.Core.Path.{_≡_};
 ghost use mathlib.Core.Bool.{true, not};
 ghost use mathlib.Core.List.{List, [], _∷_};

@@ -1,8 +1,6 @@
 // Noting: what stands in the lent tables and the work space while a text is read, how much it is, and what a declaration of good form
-// brings; and an I/O declaration, for which rules 9 to 13 are asked by number and one more is noted. It promises the refusal that the
-// rules give, or tables that note one declaration more. Asking and laying stand below it, metas, wiring and reading above.
-pub mod ios;
-
+// brings; and a refusal as a step of reading tells it. Asking and laying stand below it; the declarations of I/O, metadata and cells, the
+// loop over them and reading above.
 ghost use mathlib.Core.Path.{_≡_};
 ghost use Rattle.ground.specs.Refusals.{refusal};
 ghost use Rattle.noting.specs.declared.Ruling.the-variants.{Refused};

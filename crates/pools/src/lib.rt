@@ -7,6 +7,7 @@ ghost use lib.ListN.{length, drop, getD};
 ghost use Rattle.ground.specs.Lists.{every};
 ghost use Rattle.ground.specs.Regions.{blank};
 ghost use Rattle.netlist.specs.Rules.{isTrit};
+ghost use Rattle.pools.specs.Lying.{lies};
 
 // Whether there are only zeros from a place on.
 pub fn blank_words(table: &[u32], from: usize) -> bool
@@ -64,4 +65,15 @@ pub fn word_of(row: &[u32], i: usize) -> usize
     ensures { λ r. ⌜ (r ≡ getD (now (row .entry)) i 0) × (r < 4294967296) ⌝ }
 {
     row[i] as usize
+}
+
+// Whether what a row names begins where the pool so far ends, and is there.
+pub fn lies_at(at: usize, room: usize, start: usize, size: usize) -> bool
+    requires { ⌜ (at < 4294967296) × (size < 17179869184) ⌝ }
+    ensures { λ r. ⌜ r ≡ lies at room start size ⌝ }
+{
+    if start != at {
+        return false;
+    }
+    at + size <= room
 }

@@ -1,7 +1,7 @@
 // The record reader: the lent load list and the number of the record it stands at. It promises the reader at the first record, whether a
 // record is left, the record's operation and fields, and the reader at the next record; read so, a list gives each of its records once and
 // in order. The work is in functions on the plain list. Records stand below it; the listing above.
-use listcheck::record_count;
+use listcount::record_count;
 use loadlist::Record;
 use loadlist::records::record_at;
 ghost use mathlib.Core.Path.{_≡_};
@@ -31,6 +31,13 @@ fn number_after(list: &[u8], number: usize) -> usize
     number
 }
 
+// The record of the number.
+fn record_by(list: &[u8], number: usize) -> Record
+    ensures { λ r. ⌜ r ≡ recordAt (now (list .entry)) number ⌝ }
+{
+    record_at(list, number)
+}
+
 // The reader at the first record.
 pub fn first<'a>(list: &'a [u8]) -> Records<'a>
     ensures { λ r. ⌜ r ≡ atFirst (list .entry) ⌝ }
@@ -49,7 +56,7 @@ pub fn is_left<'a>(reader: Records<'a>) -> bool
 pub fn record_of<'a>(reader: Records<'a>) -> Record
     ensures { λ r. ⌜ r ≡ recordOf (reader .entry) ⌝ }
 {
-    record_at(reader.list, reader.number)
+    record_by(reader.list, reader.number)
 }
 
 // The reader at the next record.

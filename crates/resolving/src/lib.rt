@@ -1,6 +1,5 @@
-// Resolving: when all declarations are noted, whether each piece of the text resolves (14), and the author's cell numbers in the run
-// rows become rows. It promises the place of the first piece that does not resolve, zero-width and zero-times ones included. Saying
-// stands below it, reading above.
+// Resolving: when all declarations are noted, whether each piece of the text resolves (14). It promises the place of the first piece that
+// does not, zero-width and zero-times ones included. Saying stands below it, reading above.
 use brackets::Base;
 use brackets::Operand;
 use brackets::Part;
@@ -16,36 +15,12 @@ ghost use lib.ListN.{length};
 ghost use Rattle.signs.specs.Bytes.{table};
 ghost use Rattle.brackets.specs.Parts.{partsAt};
 ghost use Rattle.saying.specs.Pieces.{baseIn};
-ghost use Rattle.resolving.specs.Resolving.{rowWord, RunsNumbered, RowsRuns, resolvesIn, rowResolves, rowsResolve, baseLost, lostFrom, operandOf, lostOf};
+ghost use Rattle.resolving.specs.Resolving.{RunsNumbered, resolvesIn, rowResolves, rowsResolve, baseLost, lostFrom, operandOf, lostOf};
 
 // The place of the first piece that does not resolve.
 pub enum Lost {
     At(Place),
     Nowhere,
-}
-
-// What begins a run row once its author's number is a row; a constant begins with 0 and has none.
-fn row_word(map: &[u32], head: u32) -> u32
-    ensures { λ r. ⌜ r ≡ rowWord (now (map .entry)) head ⌝ }
-{
-    if head == 0 {
-        return 0;
-    }
-    word_at(map, (head - 1) as usize)
-}
-
-// The author's cell numbers in the first n run rows become rows.
-pub fn row_runs(map: &[u32], runs: &mut [u32], n: usize)
-    requires { ⌜ RunsNumbered (now runs) n ⌝ }
-    ensures { λ _. ⌜ RowsRuns (now (map .entry)) n (now (runs .entry)) (now (runs .exit)) ⌝ }
-{
-    let mut i: usize = 0;
-    while i < n {
-        let k = i * 3;
-        let head = row_word(map, runs[k]);
-        runs[k] = head;
-        i += 1;
-    }
 }
 
 // Whether a piece resolves: its cell is declared, and it ends within the cell's width.

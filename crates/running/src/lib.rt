@@ -9,7 +9,7 @@ use ground::Place;
 use ground::Refusal;
 use lent::all_trits;
 use listcheck::check;
-use listcheck::record_count;
+use listcount::record_count;
 use loadlist::Listed;
 use loadlist::Ran;
 use outputs::give_outputs;

@@ -1,6 +1,6 @@
 // Settling: when all of a text is read, the notes of its rows become the rows of docs/LAYOUT.md: every start is filled in, and the
 // strings are laid one behind the other in the order of the canonical text. Saying stands below it, reading above.
-use strings::fill;
+use decoding::fill;
 use words::wide;
 ghost use mathlib.Core.Path.{_≡_};
 ghost use mathlib.Core.List.{List};

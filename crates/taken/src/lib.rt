@@ -1,5 +1,7 @@
-// Taken: whether a name is taken among the rows noted so far, by its decoded bytes, and the mark of a name in the text (rule 9). It promises
-// the answers that the rules of the netlist give of what the notes say. The steps of reading stand above it.
+// Taken: whether a name is taken among the rows noted so far, by its decoded bytes (rule 9). It promises the answers that the rules of the
+// netlist give of what the notes say. The steps of reading stand above it.
+use decoding::next_byte;
+use words::word_at;
 ghost use mathlib.Core.Path.{_≡_};
 ghost use mathlib.Core.List.{List};
 ghost use Prim.Native.Nat.{_+_, _*_, _<_, _≤_};
@@ -9,13 +11,8 @@ ghost use Rattle.ground.specs.Regions.{pad};
 ghost use Rattle.ground.specs.Text.{same};
 ghost use Rattle.signs.specs.Pieces.{decoded};
 ghost use Rattle.netlist.specs.Rules.{taken, ioNames, namesAs};
-ghost use Rattle.marking.specs.Marks.{markOf};
 ghost use Rattle.saying.specs.Notes.{IoNote, CellNote, ioNote, cellNote, iosSaid, cellsSaid, SpellIos, SpellCells};
 ghost use Rattle.asking.specs.Namesakes.{sameRaw, namesake, ioNamesake, cellNamesake, Sized, IosNoted, CellsNoted, FreshIo, FreshCell, Passes};
-use marking::mark_kind;
-use marking::mark_more;
-use strings::next_byte;
-use words::word_at;
 
 // Whether two places of the text hold the same byte, one that means itself.
 fn same_raw(text: &[u8], i: usize, j: usize) -> bool
@@ -169,28 +166,4 @@ pub fn cell_taken(
         return false;
     }
     cell_found(text, cells, n, kind, from, size)
-}
-
-// The mark of the name of `size` bytes that the text spells from the place on. Most bytes mean themselves.
-pub fn name_mark(text: &[u8], kind: u32, from: usize, size: usize) -> u32
-    requires { ⌜ size ≡ length (decoded (now text) from) ⌝ }
-    ensures { λ r. ⌜ r ≡ markOf kind (decoded (now (text .entry)) from) ⌝ }
-{
-    let mut mark = mark_kind(kind);
-    let mut left = size;
-    let mut i = from;
-    while 0 < left {
-        let b = text[i];
-        if b != 92 {
-            mark = mark_more(mark, b);
-            i += 1;
-            left -= 1;
-            continue;
-        }
-        let x = next_byte(text, i);
-        mark = mark_more(mark, x.byte);
-        i = x.end;
-        left -= 1;
-    }
-    mark
 }

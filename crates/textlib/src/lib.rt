@@ -1,5 +1,5 @@
 // The C library's functions of texts: the whole text and the count of its tokens, their answers told as numbers, with refusal number 0
-// where nothing is refused. It promises what scanning and lexis promise. The functions that callers in C name stand above it, in grackleivy.
+// where nothing is refused. It promises what scanning and lexis promise.
 use ground::Place;
 use ground::Refusal;
 use lexis::Reader;
@@ -115,7 +115,8 @@ pub fn told_by(g: Refusal) -> Told
 }
 
 // The text as a whole: refusal 2, 3 or 4 with its place.
-pub fn text_whole(text: &[u8]) -> Told
+#[no_mangle]
+pub extern "C" fn grackle_whole(text: &[u8]) -> Told
     ensures { λ r. ⌜ r ≡ told (wholeOf (now (text .entry))) ⌝ }
 {
     match whole(text) {
@@ -125,7 +126,8 @@ pub fn text_whole(text: &[u8]) -> Told
 }
 
 // The tokens of a text that is sound as a whole, line ends counted: how many, or the first refusal 2 to 6 with its place.
-pub fn text_tokens(text: &[u8]) -> Counted
+#[no_mangle]
+pub extern "C" fn grackle_tokens(text: &[u8]) -> Counted
     ensures { λ r. ⌜ r ≡ tokensOf (now (text .entry)) ⌝ }
 {
     match whole(text) {

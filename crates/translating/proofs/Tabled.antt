@@ -35,7 +35,7 @@ use Rattle.evaluating.specs.InTables.{startsIn}
 use Rattle.evaluating.proofs.Settles.{all-placed}
 use Rattle.evaluating.proofs.Held.{Held, held-same, output-same, start-room}
 use Rattle.evaluating.proofs.Shown.{outputs-shown, joined-same, is-valid, count-is, cell-is, inputs-are, next, most, begin, held-first}
-use Rattle.evaluating.proofs.Ordered.{member, ordered, ordered-few}
+use Rattle.ordering.proofs.Ordered.{member, ordered, ordered-few}
 use Rattle.evaluating.proofs.Tables.{pool-held, sound-tables}
 use Rattle.translating.specs.Translation.{Slots, constants, inputRecords, inputSlots, cellRecords, cellSlots, outputRecords, slotsOf, translation, cellSum, recordSum}
 use Rattle.translating.specs.InTables.{rowSum, madeFrom, firstSlots, rowRecords, rowSlots, lastSlots, translationIn}

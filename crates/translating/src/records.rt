@@ -1,9 +1,9 @@
 // The records of the constants, the inputs and the outputs, and the slots of the inputs.
 use assigning::input_width;
-use gathering::slots::gather_slots;
 use loadlist::Record;
 use loadlist::records::put_record;
 use pools::word_of;
+use slotgathering::gather_slots;
 ghost use mathlib.Core.Path.{_≡_};
 ghost use mathlib.Core.List.{List, [], _∷_};
 ghost use Prim.Native.Nat.{ℕ, _+_, _*_, _<_, _≤_};

@@ -1,7 +1,7 @@
 // The records of the cells in their order, with the slots of all bits in one slice.
-use gathering::slots::gather_slots;
 use pools::word_of;
 use recording::make;
+use slotgathering::gather_slots;
 ghost use mathlib.Core.Path.{_≡_};
 ghost use mathlib.Core.List.{List};
 ghost use Prim.Native.Nat.{ℕ, _+_, _*_, _<_, _≤_};

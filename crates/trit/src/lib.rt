@@ -6,13 +6,13 @@ ghost use mathlib.Core.Path.{_≡_};
 ghost use Prim.Native.Nat.{_≤_};
 ghost use Rattle.trit.specs.Trit.{notOf, andOf, orOf, xorOf, holds, countOf, carryOf};
 
-pub fn not3(a: u8) -> u8
-    ensures { λ r. ⌜ r ≡ notOf a ⌝ }
+pub fn not3(bit: u8) -> u8
+    ensures { λ r. ⌜ r ≡ notOf bit ⌝ }
 {
-    if a == 0 {
+    if bit == 0 {
         return 1;
     }
-    if a == 1 {
+    if bit == 1 {
         return 0;
     }
     2

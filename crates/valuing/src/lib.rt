@@ -12,7 +12,7 @@ ghost use Rattle.cells.specs.Values.{kindValue};
 ghost use Rattle.placing.specs.Placing.{outputFrom};
 ghost use Rattle.assigning.specs.Rows.{widthIn};
 ghost use Rattle.valuing.specs.Row.{cellOf, rowValue, Placed, RowSound, Valued};
-use cells::value::put_value;
+use cellvalues::value::put_value;
 use gathering::bits::gather;
 use pools::word_of;
 

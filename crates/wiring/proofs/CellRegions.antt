@@ -62,3 +62,17 @@ runs-with text w so rows bits r runs trits h k i j laid tells = record {
   keptRows = same-put 14019 12288 rows runs (omega arith) i;
   keptBits = same-put 131072 262656 bits trits (omega arith) j;
 }
+
+-- the same where both are cut to the end of what is lent: n rows and m trits
+pub runs-rest : (text : List ℕ) (w : Wiring) (so : Laid) (rows bits : List ℕ) (r : CellLaying) (runs trits : List ℕ) (n m : ℕ) → length rows ≡ 26307 → length bits ≡ 393728 → n ≡ 12288 → m ≡ 262656
+    → length runs ≡ length (part 14019 n rows) → length trits ≡ length (part 131072 m bits)
+    → ((rs : List Run) → Holds rs (part 14019 n rows) (part 131072 m bits) so → CellAfter rs (operandRuns text (w .a)) (operandRuns text (w .b)) (operandRuns text (w .c)) r runs trits)
+    → CellTellsBare (cellBare text w) r
+    → RunsWith text w so rows bits r (put 14019 n rows runs) (put 131072 m bits trits)
+runs-rest text w so rows bits r runs trits n m h k en em i j laid tells =
+    let x = part-length 14019 12288 rows (omega (arith, h)) in
+    let y = part-length 131072 262656 bits (omega (arith, k)) in
+    subst (λ (z : ℕ). RunsWith text w so rows bits r (put 14019 z rows runs) (put 131072 m bits trits)) (sym en)
+    (subst (λ (z : ℕ). RunsWith text w so rows bits r (put 14019 12288 rows runs) (put 131072 z bits trits)) (sym em)
+    (runs-with text w so rows bits r runs trits h k (subst (λ (z : ℕ). length runs ≡ length (part 14019 z rows)) en i ∙ x) (subst (λ (z : ℕ). length trits ≡ length (part 131072 z bits)) em j ∙ y)
+    (λ rs o. laid rs (subst (λ (z : ℕ). Holds rs (part 14019 z rows) (part 131072 m bits) so) (sym en) (subst (λ (z : ℕ). Holds rs (part 14019 12288 rows) (part 131072 z bits) so) (sym em) o))) tells))

@@ -28,6 +28,7 @@ use asking::refs::ref_row;
 use asking::refs::row_of;
 use brackets::Operand;
 use brackets::Ref;
+use cellruns::lay_cell;
 use form::Declared;
 use form::Wiring;
 use ground::Place;
@@ -37,7 +38,6 @@ use kinds::has_name;
 use laying::CellLaying;
 use laying::Counts;
 use laying::Laid;
-use laying::lay_cell;
 use noting::Noting;
 use noting::Tally;
 use taken::cell_taken;
@@ -209,14 +209,7 @@ fn lay_runs(
     requires { ⌜ (now t ≡ table) × (length (now text) ≤ 65536) × (length (now rows) ≡ 26307) × (length (now bits) ≡ 393728) × Held (runsIn (now rows)) (runTritsIn (now bits)) so × Room (now text) w so ⌝ }
     ensures { λ r. ⌜ RunsWith (now (text .entry)) w so (now (rows .entry)) (now (bits .entry)) r (now (rows .exit)) (now (bits .exit)) ⌝ }
 {
-    lay_cell(
-        t,
-        text,
-        w,
-        &mut rows[14019..26307],
-        &mut bits[131072..393728],
-        so,
-    )
+    lay_cell(t, text, w, &mut rows[14019..], &mut bits[131072..], so)
 }
 
 // The row of the cell's number plus one, 0 where it is new.

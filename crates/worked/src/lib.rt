@@ -1,53 +1,10 @@
 // The lines of worked texts, shared by the programs that run them. Each line of their input says one text: `\n`, `\r`, `\t` and `\\`
 // stand for themselves as usual, `\xHH` for a byte, `\{N|BODY}` for BODY N times with `\#` as the number of the round, all other bytes
 // for themselves. It promises that nothing is written past a room; what a line says is held by the programs' expected output.
-use ground::Refusal;
-use libc::STDOUT_FILENO;
-ghost use mathlib.Core.Path.{_≡_};
+use finding::find;
+use finding::hex;
 ghost use Prim.Native.Nat.{_<_, _≤_};
 ghost use lib.ListN.{length};
-
-pub fn tell_refused(r: Refusal) {
-    io::write_all(STDOUT_FILENO, b"refused ");
-    io::print_decimal(STDOUT_FILENO, r.number as u64);
-    io::write_all(STDOUT_FILENO, b" at ");
-    let place = r.place;
-    io::print_decimal(STDOUT_FILENO, place.at as u64);
-}
-
-// The value of a digit 0-9a-f; 0 for any other byte.
-pub fn hex(b: u8) -> u8
-    ensures { λ r. ⌜ r ≤ 15 ⌝ }
-{
-    if b < 48 {
-        return 0;
-    }
-    if b < 58 {
-        return b - 48;
-    }
-    if b < 97 {
-        return 0;
-    }
-    if b < 103 {
-        return b - 87;
-    }
-    0
-}
-
-// The place of the byte at or past `from`, or the end.
-pub fn find(line: &[u8], from: usize, byte: u8) -> usize
-    requires { ⌜ from ≤ length (now line) ⌝ }
-    ensures { λ r. ⌜ (from ≤ r) × (r ≤ length (now (line .entry))) ⌝ }
-{
-    let mut k = from;
-    while k < line.len() {
-        if line[k] == byte {
-            return k;
-        }
-        k += 1;
-    }
-    k
-}
 
 // Whether a pattern begins at the place.
 fn opens(line: &[u8], at: usize) -> bool {

@@ -5,7 +5,7 @@ use Rattle.cases.proofs.tell_all.Statement.{statement}
 use Rattle.cases.proofs.tell_all.Tie as tie
 use Rattle.cases.proofs.tell_all.Reads as reads
 use Rattle.cases.proofs.tell_all.Lts as lts
-use Rattle.worked.proofs.find.Reads as find-reads
+use Rattle.finding.proofs.find.Reads as find-reads
 use Rattle.cases.proofs.tell_line.Reads as tell-line-reads
 
 abbrev Inv-loop : tie.InvT-loop

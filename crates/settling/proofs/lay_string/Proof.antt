@@ -9,7 +9,7 @@ use Rattle.settling.proofs.lay_string.Statement.{statement}
 use Rattle.settling.proofs.lay_string.Tie as tie
 use Rattle.settling.proofs.lay_string.Reads as reads
 use Rattle.settling.proofs.lay_string.Lts as lts
-use Rattle.strings.proofs.fill.Reads as fill-reads
+use Rattle.decoding.proofs.fill.Reads as fill-reads
 use Rattle.words.proofs.wide.Reads as wide-reads
 
 -- src/lib.rt:37:9

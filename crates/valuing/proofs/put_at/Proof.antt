@@ -4,7 +4,7 @@ use Rattle.valuing.proofs.put_at.Statement.{statement}
 use Rattle.valuing.proofs.put_at.Tie as tie
 use Rattle.valuing.proofs.put_at.Reads as reads
 use Rattle.valuing.proofs.put_at.Lts as lts
-use Rattle.cells.proofs.value.put_value.Reads as put-value-reads
+use Rattle.cellvalues.proofs.value.put_value.Reads as put-value-reads
 
 -- src/lib.rt:47:30
 sub-put-value : tie.Need-sub-put-value

@@ -1,6 +1,7 @@
-use Rattle.ground.proofs.Regions.{part-length}
 use native.Mathlib.Omega.{arith}
-use Rattle.wiring.proofs.CellRegions.{runs-with}
+use Prim.Native.Nat.{_-_}
+use lib.ListN.{length}
+use Rattle.wiring.proofs.CellRegions.{runs-rest}
 use Rattle.ground.specs.Regions.{part}
 use borrow.Author.Needs.{needs}
 use Rattle.wiring.proofs.lay_runs.Statement.{statement}
@@ -26,7 +27,7 @@ part-lay-cell-end-2 c = search needs
 
 lay-cell-requires : tie.Need-lay-cell-requires
 unfolding part
-lay-cell-requires c κs = let s = c .before .before .before .before .before in (s .pre .0, s .pre .1, s .pre .4, s .pre .5)
+lay-cell-requires c κs = let s = c .before .before .before .before .before in (s .pre .0, s .pre .1, rw (s .pre .2, s .pre .3) (s .pre .4), s .pre .5)
 
 same-length : tie.Need-same-length
 same-length c = search needs
@@ -36,7 +37,11 @@ same-length-2 c = search needs
 
 returns : tie.Need-returns
 unfolding part
-returns c = let s = c .before .before .before .before .before .before .before .before .before .before in let a = s .args in let x = part-length 14019 12288 (a .rows .now) (omega (arith, s .pre .2)) in let y = part-length 131072 262656 (a .bits .now) (omega (arith, s .pre .3)) in runs-with (a .text .now) (a .w) (a .so) (a .rows .now) (a .bits .now) _ _ _ (s .pre .2) (s .pre .3) (omega (arith, c .before .before .before .before .lay-cell .kept, x)) (omega (arith, c .before .before .before .before .lay-cell .kept, y)) (c .before .before .before .before .lay-cell .ensures .0) (c .before .before .before .before .lay-cell .ensures .1)
+returns c =
+    let s = c .before .before .before .before .before .before .before .before .before .before in
+    let a = s .args in
+    let l = c .before .before .before .before .lay-cell in
+    runs-rest (a .text .now) (a .w) (a .so) (a .rows .now) (a .bits .now) _ _ _ (length (a .rows .now) - 14019) (length (a .bits .now) - 131072) (s .pre .2) (s .pre .3) (omega (arith, s .pre .2)) (omega (arith, s .pre .3)) (omega (arith, l .kept)) (omega (arith, l .kept)) (l .ensures .0) (l .ensures .1)
 
 pub lay-runs-spec : {M : Type 1} → statement M
 lay-runs-spec =

@@ -7,7 +7,7 @@ use Rattle.worked.proofs.number.Tie as tie
 use Rattle.worked.proofs.number.Reads as reads
 use Rattle.worked.proofs.number.Lts as lts
 use Rattle.worked.proofs.grown.Reads as grown-reads
-use Rattle.worked.proofs.hex.Reads as hex-reads
+use Rattle.finding.proofs.hex.Reads as hex-reads
 
 abbrev Inv-loop : tie.InvT-loop
 Inv-loop digits n₀ i₀ n i = (n ≤ 100005) × (i ≤ length digits)

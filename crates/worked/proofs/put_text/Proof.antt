@@ -6,7 +6,7 @@ use Rattle.worked.proofs.put_text.Statement.{statement}
 use Rattle.worked.proofs.put_text.Tie as tie
 use Rattle.worked.proofs.put_text.Reads as reads
 use Rattle.worked.proofs.put_text.Lts as lts
-use Rattle.worked.proofs.find.Reads as find-reads
+use Rattle.finding.proofs.find.Reads as find-reads
 use Rattle.worked.proofs.number.Reads as number-reads
 use Rattle.worked.proofs.pattern_at.Reads as pattern-at-reads
 use Rattle.worked.proofs.put_bytes.Reads as put-bytes-reads

@@ -4,7 +4,7 @@ use Rattle.checkcells.proofs.cells.is_placed.Tie as tie
 use Rattle.checkcells.proofs.cells.is_placed.Reads as reads
 use Rattle.checkcells.proofs.cells.is_placed.Lts as lts
 use Rattle.pools.proofs.both.Reads as both-reads
-use Rattle.checkmeta.proofs.rows.lies_at.Reads as lies-at-reads
+use Rattle.pools.proofs.lies_at.Reads as lies-at-reads
 use Rattle.pools.proofs.word_of.Reads as word-of-reads
 
 -- src/cells.rt:93:16

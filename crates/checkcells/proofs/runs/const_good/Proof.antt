@@ -7,7 +7,7 @@ use Rattle.checkcells.proofs.runs.const_good.Tie as tie
 use Rattle.checkcells.proofs.runs.const_good.Reads as reads
 use Rattle.checkcells.proofs.runs.const_good.Lts as lts
 use Rattle.pools.proofs.all_trits.Reads as all-trits-reads
-use Rattle.checkmeta.proofs.rows.lies_at.Reads as lies-at-reads
+use Rattle.pools.proofs.lies_at.Reads as lies-at-reads
 
 -- src/runs.rt:37:8
 lies-at-requires : tie.Need-lies-at-requires

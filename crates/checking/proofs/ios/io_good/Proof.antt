@@ -5,7 +5,7 @@ use Rattle.checking.proofs.ios.io_good.Reads as reads
 use Rattle.checking.proofs.ios.io_good.Lts as lts
 use Rattle.checking.proofs.ios.name_wide.Reads as name-wide-reads
 use Rattle.pools.proofs.both.Reads as both-reads
-use Rattle.checkmeta.proofs.rows.lies_at.Reads as lies-at-reads
+use Rattle.pools.proofs.lies_at.Reads as lies-at-reads
 use Rattle.pools.proofs.word_of.Reads as word-of-reads
 use Rattle.kinds.proofs.wide.Reads as wide-reads
 

@@ -4,8 +4,8 @@ use Rattle.checking.proofs.parts.blank_behind.Tie as tie
 use Rattle.checking.proofs.parts.blank_behind.Reads as reads
 use Rattle.checking.proofs.parts.blank_behind.Lts as lts
 use Rattle.pools.proofs.both.Reads as both-reads
-use Rattle.checking.proofs.blank.no_bytes.Reads as no-bytes-reads
-use Rattle.checking.proofs.blank.no_words.Reads as no-words-reads
+use Rattle.blanks.proofs.no_bytes.Reads as no-bytes-reads
+use Rattle.blanks.proofs.no_words.Reads as no-words-reads
 
 -- src/parts.rt:64:28
 mul-no-words : tie.Need-mul-no-words

@@ -4,7 +4,7 @@ use Rattle.checkmeta.proofs.rows.is_placed.Tie as tie
 use Rattle.checkmeta.proofs.rows.is_placed.Reads as reads
 use Rattle.checkmeta.proofs.rows.is_placed.Lts as lts
 use Rattle.pools.proofs.both.Reads as both-reads
-use Rattle.checkmeta.proofs.rows.lies_at.Reads as lies-at-reads
+use Rattle.pools.proofs.lies_at.Reads as lies-at-reads
 use Rattle.pools.proofs.word_of.Reads as word-of-reads
 
 -- src/rows.rt:82:9

@@ -3,7 +3,7 @@ use Rattle.declaring.proofs.fresh.mark_name.Statement.{statement}
 use Rattle.declaring.proofs.fresh.mark_name.Tie as tie
 use Rattle.declaring.proofs.fresh.mark_name.Reads as reads
 use Rattle.declaring.proofs.fresh.mark_name.Lts as lts
-use Rattle.taken.proofs.name_mark.Reads as name-mark-reads
+use Rattle.namemarks.proofs.name_mark.Reads as name-mark-reads
 use Rattle.marking.proofs.is_new.Reads as is-new-reads
 
 -- src/fresh.rt:21:18

@@ -7,7 +7,7 @@ use Rattle.declaring.proofs.notes.note.Tie as tie
 use Rattle.declaring.proofs.notes.note.Reads as reads
 use Rattle.declaring.proofs.notes.note.Lts as lts
 use Rattle.wiring.proofs.note_cell.Reads as note-cell-reads
-use Rattle.noting.proofs.ios.note_io.Reads as note-io-reads
+use Rattle.ionotes.proofs.note_io.Reads as note-io-reads
 use Rattle.metas.proofs.note_meta.Reads as note-meta-reads
 use Rattle.declaring.proofs.notes.sort_of.Reads as sort-of-reads
 

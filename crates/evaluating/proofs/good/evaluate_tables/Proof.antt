@@ -1,7 +1,7 @@
 use Rattle.evaluating.proofs.Entry.{ring-answer, unfit-answer, given-answer}
 use Rattle.evaluating.proofs.Ways.{fit-length}
 use Rattle.evaluating.proofs.Settling.{rows-begin}
-use Rattle.evaluating.proofs.Ordered.{ordered, ordered-below, ordered-few}
+use Rattle.ordering.proofs.Ordered.{ordered, ordered-below, ordered-few}
 use mathlib.Core.Path.{sym, _∙_}
 use borrow.Author.Needs.{needs}
 use Rattle.evaluating.proofs.good.evaluate_tables.Statement.{statement}
@@ -10,7 +10,7 @@ use Rattle.evaluating.proofs.good.evaluate_tables.Reads as reads
 use Rattle.evaluating.proofs.good.evaluate_tables.Lts as lts
 use Rattle.evaluating.proofs.good.evaluate_placed.Reads as evaluate-placed-reads
 use Rattle.evaluating.proofs.good.fits.Reads as fits-reads
-use Rattle.evaluating.proofs.good.order_rows.Reads as order-rows-reads
+use Rattle.ordering.proofs.order_rows.Reads as order-rows-reads
 use Rattle.evaluating.proofs.good.refused.Reads as refused-reads
 
 -- src/good.rt:92:45

@@ -10,7 +10,7 @@ use Rattle.finishing.proofs.finish.row_all_runs.Statement.{statement}
 use Rattle.finishing.proofs.finish.row_all_runs.Tie as tie
 use Rattle.finishing.proofs.finish.row_all_runs.Reads as reads
 use Rattle.finishing.proofs.finish.row_all_runs.Lts as lts
-use Rattle.resolving.proofs.row_runs.Reads as row-runs-reads
+use Rattle.rowruns.proofs.row_runs.Reads as row-runs-reads
 
 -- src/finish.rt:37:14
 sub-row-runs : tie.Need-sub-row-runs

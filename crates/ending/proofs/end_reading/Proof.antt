@@ -1,0 +1,69 @@
+use mathlib.Core.Path.{ap, _∙_}
+use lib.ListN.{length}
+use Rattle.ground.proofs.Regions.{length-zeros}
+use Rattle.finishing.proofs.Finishing.{few-rows}
+use Rattle.reading.proofs.Answering.{all-ready, end-lost, end-found}
+use borrow.Author.Needs.{needs}
+use Rattle.ending.proofs.end_reading.Statement.{statement}
+use Rattle.ending.proofs.end_reading.Tie as tie
+use Rattle.ending.proofs.end_reading.Reads as reads
+use Rattle.ending.proofs.end_reading.Lts as lts
+use Rattle.ending.proofs.lost_piece.Reads as lost-piece-reads
+use Rattle.finishing.proofs.finish.finish.Reads as finish-reads
+
+-- src/ending.rt:61:11
+lost-piece-requires : tie.Need-lost-piece-requires
+lost-piece-requires c κs = let p = c .before .before .before .before .before in
+    let a = p .args in
+    let s = p .pre .2 in
+    let d = s .whole .noted in
+    let few = few-rows (a .text .now) (s .whole .so) (a .n) (a .rows .now) (s .bits) (a .work .now) d in
+    (p .pre .0, p .pre .1, d .longRows, d .longWork, few .2, few .3)
+
+-- src/ending.rt:62:18
+enum-known-place : tie.Need-enum-known-place
+enum-known-place c = search needs
+
+-- src/ending.rt:64:26
+enum-told : tie.Need-enum-told
+enum-told c = search needs
+
+-- src/ending.rt:64:13
+finish-requires : tie.Need-finish-requires
+finish-requires c κs = let p = c .before .before .before .before .before .before .before .before .before .before in
+    let s = p .pre .2 in
+    (record { so = s .whole .so; bits = s .bits; ready = all-ready (c .before .before .before .before .lost-piece .ensures) (c .before .before .enum-told .given .1) (s .bits) (s .whole) }, ap length (p .pre .3) ∙ length-zeros 16384)
+
+-- src/ending.rt:50:1
+same-length : tie.Need-same-length
+same-length c = search needs
+
+-- src/ending.rt:50:1
+returns : tie.Need-returns
+returns c = end-lost (c .before .before .before .lost-piece .ensures) _ (c .before .place .given .1) _
+
+-- src/ending.rt:50:1
+same-length-2 : tie.Need-same-length-2
+same-length-2 c = search needs
+
+-- src/ending.rt:50:1
+same-length-3 : tie.Need-same-length-3
+same-length-3 c = search needs
+
+-- src/ending.rt:50:1
+returns-2 : tie.Need-returns-2
+returns-2 c = end-found (c .before .before .before .before .before .before .before .before .before .lost-piece .ensures) (c .before .before .before .before .before .before .before .enum-told .given .1) (c .before .before .before .before .before .before .before .before .before .before .before .before .before .before .before .pre .3) (c .before .before .before .before .finish .ensures)
+
+pub end-reading-spec : {M : Type 1} → statement M
+end-reading-spec =
+    tie.close
+    (tie.spec
+    lost-piece-requires
+    enum-known-place
+    enum-told
+    finish-requires
+    same-length
+    returns
+    same-length-2
+    same-length-3
+    returns-2)

@@ -1,0 +1,31 @@
+-- How much of a text a word may take, and how a word is looked up in a list.
+-- Assumes nothing.
+use mathlib.Core.Path.{_≡_, sym, _∙_}
+use mathlib.Core.Bool.{true, false}
+use mathlib.Core.List.{List, [], _∷_}
+use Prim.Native.Nat.{ℕ, _+_, _-_, _<_, _≤_}
+use Prim.Native.String.{String}
+use native.Mathlib.Omega.{arith}
+use lib.ListN.{length, take, drop, getD, length-drop}
+use lib.Seq.{take-all, take-nil}
+use Rattle.ground.specs.Text.{bytes, same}
+use Rattle.ground.proofs.Rest.{rest-end}
+use Rattle.brackets.specs.Words.{numbered}
+
+-- a run past the end of the text, and one that the text's end cuts short
+pub run-none : (s : List ℕ) (from size : ℕ) → length s < from → [] ≡ take size (drop from s)
+run-none s from size h = sym (rw (rest-end s from (omega arith)) (take-nil size))
+
+pub run-short : (s : List ℕ) (from size : ℕ) → length s - from < size → take (length s - from) (drop from s) ≡ take size (drop from s)
+run-short s from size h =
+    take-all (length s - from) (drop from s) (simp length-drop (omega arith)) ∙ sym (take-all size (drop from s) (simp length-drop (omega arith)))
+
+-- the first word of a list is the one, or it is looked for behind it
+module _ (ls : List ℕ) (w : String) (ws : List String) (n : ℕ) where
+  pub numbered-hit : same ls (bytes w) ≡ true → numbered (w ∷ ws) ls n ≡ n
+  unfolding numbered
+  numbered-hit e = rw (e, numbered)
+
+  pub numbered-miss : same ls (bytes w) ≡ false → numbered (w ∷ ws) ls n ≡ numbered ws ls (n + 1)
+  unfolding numbered
+  numbered-miss e = rw (e, numbered)

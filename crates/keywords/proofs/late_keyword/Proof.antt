@@ -1,0 +1,97 @@
+-- Each word that is not the one leaves the rest of the list.
+use Rattle.keywords.proofs.Letters.{numbered-hit, numbered-miss}
+use Rattle.brackets.specs.Words.{numbered}
+use Rattle.kinds.specs.Kinds.{kindAt}
+use Rattle.ground.specs.Text.{bytes}
+use mathlib.Core.Path.{sym, _∙_}
+use borrow.Author.Needs.{needs}
+use Rattle.keywords.proofs.late_keyword.Statement.{statement}
+use Rattle.keywords.proofs.late_keyword.Tie as tie
+
+slice-aggregate-same-bytes : tie.Need-slice-aggregate-same-bytes
+slice-aggregate-same-bytes c = search needs
+
+same-bytes-requires : tie.Need-same-bytes-requires
+same-bytes-requires c κs = search needs
+
+returns : tie.Need-returns
+unfolding kindAt bytes numbered
+returns c = rw (numbered-hit _ "xor" _ _ (sym (c .before .same-bytes .ensures) ∙ c .if1 .taken))
+
+slice-aggregate-same-bytes-2 : tie.Need-slice-aggregate-same-bytes-2
+slice-aggregate-same-bytes-2 c = search needs
+
+same-bytes-requires-2 : tie.Need-same-bytes-requires-2
+same-bytes-requires-2 c κs = search needs
+
+returns-2 : tie.Need-returns-2
+unfolding kindAt bytes numbered
+returns-2 c = rw (numbered-miss _ "xor" _ _ (sym (c .before .before .before .before .same-bytes .ensures) ∙ c .before .before .before .if1 .left), numbered-hit _ "mux" _ _ (sym (c .before .same-bytes2 .ensures) ∙ c .if2 .taken))
+
+slice-aggregate-same-bytes-3 : tie.Need-slice-aggregate-same-bytes-3
+slice-aggregate-same-bytes-3 c = search needs
+
+same-bytes-requires-3 : tie.Need-same-bytes-requires-3
+same-bytes-requires-3 c κs = search needs
+
+returns-3 : tie.Need-returns-3
+unfolding kindAt bytes numbered
+returns-3 c = rw (numbered-miss _ "xor" _ _ (sym (c .before .before .before .before .before .before .before .same-bytes .ensures) ∙ c .before .before .before .before .before .before .if1 .left), numbered-miss _ "mux" _ _ (sym (c .before .before .before .before .same-bytes2 .ensures) ∙ c .before .before .before .if2 .left), numbered-hit _ "adc" _ _ (sym (c .before .same-bytes3 .ensures) ∙ c .if3 .taken))
+
+slice-aggregate-same-bytes-4 : tie.Need-slice-aggregate-same-bytes-4
+slice-aggregate-same-bytes-4 c = search needs
+
+same-bytes-requires-4 : tie.Need-same-bytes-requires-4
+same-bytes-requires-4 c κs = search needs
+
+returns-4 : tie.Need-returns-4
+unfolding kindAt bytes numbered
+returns-4 c = rw (numbered-miss _ "xor" _ _ (sym (c .before .before .before .before .before .before .before .before .before .before .same-bytes .ensures) ∙ c .before .before .before .before .before .before .before .before .before .if1 .left), numbered-miss _ "mux" _ _ (sym (c .before .before .before .before .before .before .before .same-bytes2 .ensures) ∙ c .before .before .before .before .before .before .if2 .left), numbered-miss _ "adc" _ _ (sym (c .before .before .before .before .same-bytes3 .ensures) ∙ c .before .before .before .if3 .left), numbered-hit _ "eq" _ _ (sym (c .before .same-bytes4 .ensures) ∙ c .if4 .taken))
+
+slice-aggregate-same-bytes-5 : tie.Need-slice-aggregate-same-bytes-5
+slice-aggregate-same-bytes-5 c = search needs
+
+same-bytes-requires-5 : tie.Need-same-bytes-requires-5
+same-bytes-requires-5 c κs = search needs
+
+returns-5 : tie.Need-returns-5
+unfolding kindAt bytes numbered
+returns-5 c = rw (numbered-miss _ "xor" _ _ (sym (c .before .before .before .before .before .before .before .before .before .before .before .before .before .same-bytes .ensures) ∙ c .before .before .before .before .before .before .before .before .before .before .before .before .if1 .left), numbered-miss _ "mux" _ _ (sym (c .before .before .before .before .before .before .before .before .before .before .same-bytes2 .ensures) ∙ c .before .before .before .before .before .before .before .before .before .if2 .left), numbered-miss _ "adc" _ _ (sym (c .before .before .before .before .before .before .before .same-bytes3 .ensures) ∙ c .before .before .before .before .before .before .if3 .left), numbered-miss _ "eq" _ _ (sym (c .before .before .before .before .same-bytes4 .ensures) ∙ c .before .before .before .if4 .left), numbered-hit _ "ult" _ _ (sym (c .before .same-bytes5 .ensures) ∙ c .if5 .taken))
+
+slice-aggregate-same-bytes-6 : tie.Need-slice-aggregate-same-bytes-6
+slice-aggregate-same-bytes-6 c = search needs
+
+same-bytes-requires-6 : tie.Need-same-bytes-requires-6
+same-bytes-requires-6 c κs = search needs
+
+returns-6 : tie.Need-returns-6
+unfolding kindAt bytes numbered
+returns-6 c = rw (numbered-miss _ "xor" _ _ (sym (c .before .before .before .before .before .before .before .before .before .before .before .before .before .before .before .before .same-bytes .ensures) ∙ c .before .before .before .before .before .before .before .before .before .before .before .before .before .before .before .if1 .left), numbered-miss _ "mux" _ _ (sym (c .before .before .before .before .before .before .before .before .before .before .before .before .before .same-bytes2 .ensures) ∙ c .before .before .before .before .before .before .before .before .before .before .before .before .if2 .left), numbered-miss _ "adc" _ _ (sym (c .before .before .before .before .before .before .before .before .before .before .same-bytes3 .ensures) ∙ c .before .before .before .before .before .before .before .before .before .if3 .left), numbered-miss _ "eq" _ _ (sym (c .before .before .before .before .before .before .before .same-bytes4 .ensures) ∙ c .before .before .before .before .before .before .if4 .left), numbered-miss _ "ult" _ _ (sym (c .before .before .before .before .same-bytes5 .ensures) ∙ c .before .before .before .if5 .left), numbered-hit _ "slt" _ _ (sym (c .before .same-bytes6 .ensures) ∙ c .if6 .taken))
+
+returns-7 : tie.Need-returns-7
+unfolding kindAt bytes numbered
+returns-7 c = rw (numbered-miss _ "xor" _ _ (sym (c .before .before .before .before .before .before .before .before .before .before .before .before .before .before .before .before .same-bytes .ensures) ∙ c .before .before .before .before .before .before .before .before .before .before .before .before .before .before .before .if1 .left), numbered-miss _ "mux" _ _ (sym (c .before .before .before .before .before .before .before .before .before .before .before .before .before .same-bytes2 .ensures) ∙ c .before .before .before .before .before .before .before .before .before .before .before .before .if2 .left), numbered-miss _ "adc" _ _ (sym (c .before .before .before .before .before .before .before .before .before .before .same-bytes3 .ensures) ∙ c .before .before .before .before .before .before .before .before .before .if3 .left), numbered-miss _ "eq" _ _ (sym (c .before .before .before .before .before .before .before .same-bytes4 .ensures) ∙ c .before .before .before .before .before .before .if4 .left), numbered-miss _ "ult" _ _ (sym (c .before .before .before .before .same-bytes5 .ensures) ∙ c .before .before .before .if5 .left), numbered-miss _ "slt" _ _ (sym (c .before .same-bytes6 .ensures) ∙ c .if6 .left))
+
+pub late-keyword-spec : {M : Type 1} → statement M
+late-keyword-spec =
+    tie.close
+    (tie.spec
+    slice-aggregate-same-bytes
+    same-bytes-requires
+    returns
+    slice-aggregate-same-bytes-2
+    same-bytes-requires-2
+    returns-2
+    slice-aggregate-same-bytes-3
+    same-bytes-requires-3
+    returns-3
+    slice-aggregate-same-bytes-4
+    same-bytes-requires-4
+    returns-4
+    slice-aggregate-same-bytes-5
+    same-bytes-requires-5
+    returns-5
+    slice-aggregate-same-bytes-6
+    same-bytes-requires-6
+    returns-6
+    returns-7)
