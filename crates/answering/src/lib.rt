@@ -1,6 +1,6 @@
 // Answering: what is asked of a file's bytes, a netlist or a load list, answered on standard output. It decides nothing itself: each
 // answer is that of a proved function, and a refusal is told with its number, place and ground. It promises that every call ends. The
-// functions of the core and the telling of their answers stand below it, the program `grackle` above.
+// functions of the core and the telling of their answers stand below it, the programs `grackle` and `answers` above.
 mod bench;
 mod counts;
 mod jobs;

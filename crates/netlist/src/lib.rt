@@ -1,5 +1,5 @@
-// The netlist: what it is as a value, when it is valid, how tables hold it, and which tables are good. It promises that the check
-// of tables and the lookup of I/O answer as the definitions of specs/ say. Reading, printing and logic stand above it; it knows no text.
+// The netlist: what it is as a value, when it is valid, how tables hold it, and which tables are good. Nothing runs here:
+// the check of tables and the lookup of I/O stand in checking. Reading, printing and logic stand above it; it knows no text.
 use ground::Refusal;
 
 // What the check of tables answers.

@@ -1,5 +1,5 @@
 // Pools: what lies in the regions and pools of lent tables, and that nothing lies behind it; a word of a row as a number. It promises what
-// the definitions of the ground and of the netlist give. The checks of rows stand above it.
+// the definitions of the ground, of the netlist and of specs/ give. The checks of rows stand above it.
 ghost use mathlib.Core.Path.{_≡_};
 ghost use mathlib.Core.Bool.{_&&_};
 ghost use Prim.Native.Nat.{_<_};

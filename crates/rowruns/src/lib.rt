@@ -1,5 +1,5 @@
 // The author's cell numbers in the run rows become rows, when all declarations are noted. It promises each row's first word, and that
-// nothing else is changed. Resolving stands beside it, the last step of reading above.
+// nothing else is changed. Resolving, with the definitions of it, stands below; the last step of reading above.
 use words::word_at;
 ghost use mathlib.Core.Path.{_≡_};
 ghost use Rattle.resolving.specs.Resolving.{rowWord, RunsNumbered, RowsRuns};
