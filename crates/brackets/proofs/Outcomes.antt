@@ -5,7 +5,7 @@ use Prim.Native.Nat.{ℕ}
 use Rattle.ground.proofs.Outcome.{any-two}
 use Rattle.brackets.specs.Words.{isSort, isMark, isSpelled, kindOf}
 use Rattle.brackets.specs.Parts.{isPart, str, partOf, nextPart, operandAt, ref, nextMember, setAt}
-use Rattle.brackets.specs.Walks.{walkOf, walkStep, operandWalk, tourAt, tourStep, setTour}
+use Rattle.brackets.specs.Walks.{walkOf, walkStep, tourAt, tourStep}
 
 abbrev One : {A B : Type 0} → (A → B) → Type 0
 One {A} {B} f = (a : A) (o p : B) → o ≡ f a → p ≡ f a → o ≡ p
@@ -34,12 +34,6 @@ module _ (text : List ℕ) where
 
   pub one-walk-step : One (walkStep text)
   one-walk-step = any-two (walkStep text)
-
-  pub one-operand-walk : One (operandWalk text)
-  one-operand-walk = any-two (operandWalk text)
-
-  pub one-set-tour : One (setTour text)
-  one-set-tour = any-two (setTour text)
 
   pub one-tour : One (tourAt text)
   one-tour = any-two (tourAt text)

@@ -1,7 +1,7 @@
 -- The parts of an operand and the members of a set again, one a step: a walk is where it stands, and what a step finds there.
 use Prim.Native.Nat.{ℕ, _+_, _-_}
 use mathlib.Core.List.{List, [], _∷_}
-use lib.Dec.{eqb, ltb}
+use lib.Dec.{eqb}
 use lib.ListN.{length}
 use Rattle.ground.specs.Choice.{pick}
 use Rattle.ground.specs.Refusals.{at}
@@ -30,10 +30,6 @@ walkFrom text (step.Took t r) = pick (isPart t) (Alone (partOf t) (t .place)) (W
 
 unfoldable pub walkOf : List ℕ → Operand → Walk
 walkOf text o = pick (o .given) (walkFrom text (tokenAt text (o .at))) Past
-
--- .. in a text of any length: one that is too long (2) has no parts to walk over
-unfoldable pub operandWalk : List ℕ → Operand → Walk
-operandWalk text o = pick (ltb 65536 (length text)) Past (walkOf text o)
 
 abbrev pub walkOn : ℕ → Parted → Walked
 walkOn left (parted.Took p place r) = walked.Part p place (Within r (left - 1))
@@ -64,10 +60,6 @@ mostParts (Within r left) = left
 -- THE WALK over the members of a set
 abbrev pub tourAt : List ℕ → ℕ → Tour
 tourAt text k = record { next = record { next = at k }; left = length text + 1 }
-
--- .. in a text of any length
-unfoldable pub setTour : List ℕ → ℕ → Tour
-setTour text k = pick (ltb 65536 (length text)) (record { next = record { next = at k }; left = 0 }) (tourAt text k)
 
 abbrev pub tourOn : ℕ → Membered → Toured
 tourOn left (membered.Took m r) = toured.Member m (record { next = r; left = left - 1 })

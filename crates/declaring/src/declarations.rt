@@ -9,6 +9,7 @@ use ground::Refusal;
 use lexis::Reader;
 use noting::Noting;
 use noting::Tally;
+use signs::classes::classes;
 ghost use mathlib.Core.Path.{_≡_};
 ghost use Prim.Native.Nat.{_≤_};
 ghost use lib.ListN.{length};
@@ -129,16 +130,12 @@ fn declare_all(
     Told::All(n)
 }
 
-pub fn declarations(
-    t: &[u8; 256],
-    text: &[u8],
-    rows: &mut [u32],
-    bits: &mut [u8],
-    work: &mut [u32],
-) -> Told
-    requires { ⌜ (now t ≡ table) × (length (now text) ≤ 65536) × Blank (now rows) (now bits) (now work) ⌝ }
+// All declarations. The class table and the map for the marks of names are made once for the whole text, and lent down.
+pub fn declarations(text: &[u8], rows: &mut [u32], bits: &mut [u8], work: &mut [u32]) -> Told
+    requires { ⌜ (length (now text) ≤ 65536) × Blank (now rows) (now bits) (now work) ⌝ }
     ensures { λ r. ⌜ AllNoted (now (text .entry)) r (now (rows .exit)) (now (bits .exit)) (now (work .exit)) ⌝ }
 {
+    let t = classes();
     let mut seen = [0u8; 65536];
-    declare_all(t, text, rows, bits, work, &mut seen)
+    declare_all(&t, text, rows, bits, work, &mut seen)
 }

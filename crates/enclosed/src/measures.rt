@@ -52,11 +52,10 @@ fn refused_part(token: Token) -> u8
 }
 
 // What stands next between the brackets of an operand.
-pub fn next_part(t: &[u8; 256], text: &[u8], reader: Reader) -> Parted
-    requires { ⌜ now t ≡ table ⌝ }
+pub fn next_part(text: &[u8], reader: Reader) -> Parted
     ensures { λ r. ⌜ r ≡ nextPart (now (text .entry)) (reader .next .at) ⌝ }
 {
-    match reader.inside_with(t, text) {
+    match reader.next_inside(text) {
         Step::Refused(g) => Parted::Refused(g),
         Step::Took(token, r) => parted(token, r),
     }

@@ -15,7 +15,6 @@ ghost use mathlib.Core.Path.{_≡_};
 ghost use Prim.Native.Nat.{_≤_};
 ghost use lib.ListN.{length};
 ghost use Rattle.ground.specs.Regions.{zeros};
-ghost use Rattle.signs.specs.Bytes.{table};
 ghost use Rattle.reading.specs.Answers.{rowsFound, FindsLost, SomeWhole, Ends};
 
 // Whether the run rows tell that each piece of the text resolves. A part without bits leaves no run: where one was read, they tell nothing.
@@ -30,15 +29,14 @@ fn all_found(rows: &[u32], work: &[u32], n: Tally) -> bool
 }
 
 // The first piece of the text that does not resolve; the text is read again only where the run rows do not tell that each does.
-fn lost_piece(t: &[u8; 256], text: &[u8], rows: &[u32], work: &[u32], n: Tally) -> Lost
-    requires { ⌜ (now t ≡ table) × (length (now text) ≤ 65536) × (length (now rows) ≡ 26307) × (length (now work) ≡ 132608) × (n .cells ≤ 512) × (n .runs ≤ 4096) ⌝ }
+fn lost_piece(text: &[u8], rows: &[u32], work: &[u32], n: Tally) -> Lost
+    requires { ⌜ (length (now rows) ≡ 26307) × (length (now work) ≡ 132608) × (n .cells ≤ 512) × (n .runs ≤ 4096) ⌝ }
     ensures { λ r. ⌜ FindsLost (now (text .entry)) n (now (rows .entry)) (now (work .entry)) r ⌝ }
 {
     if all_found(rows, work, n) {
         return Lost::Nowhere;
     }
     first_lost(
-        t,
         text,
         places_of(work),
         n.cells * 3,
@@ -48,17 +46,16 @@ fn lost_piece(t: &[u8; 256], text: &[u8], rows: &[u32], work: &[u32], n: Tally) 
 }
 
 pub fn end_reading(
-    t: &[u8; 256],
     text: &[u8],
     rows: &mut [u32],
     strings: &mut [u8],
     work: &[u32],
     n: Tally,
 ) -> Read
-    requires { ⌜ (now t ≡ table) × (length (now text) ≤ 65536) × SomeWhole (now text) n (now rows) (now work) × (now strings ≡ zeros 16384) ⌝ }
+    requires { ⌜ SomeWhole (now text) n (now rows) (now work) × (now strings ≡ zeros 16384) ⌝ }
     ensures { λ r. ⌜ Ends (now (text .entry)) n (now (rows .entry)) (now (work .entry)) r (now (rows .exit)) (now (strings .exit)) ⌝ }
 {
-    match lost_piece(t, text, rows, work, n) {
+    match lost_piece(text, rows, work, n) {
         Lost::At(place) => Read::Refused(Refusal { number: 14, place }),
         Lost::Nowhere => {
             finish(text, rows, strings, work, n);

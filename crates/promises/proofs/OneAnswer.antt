@@ -8,7 +8,7 @@ use Rattle.ground.proofs.Outcome.{any-two}
 use Rattle.scanning.specs.Whole.{wholeOf}
 use Rattle.lexis.specs.Tokens.{tokenAt, insideAt}
 use Rattle.signs.specs.Decoding.{decodedInto}
-use Rattle.brackets.specs.Walks.{operandWalk, walkStep, setTour, tourStep}
+use Rattle.brackets.specs.Walks.{walkOf, walkStep, tourAt, tourStep}
 use Rattle.form.specs.Forms.{formOf}
 use Rattle.netlist.specs.Good.{checkOf, lookupOf}
 use Rattle.netlist.specs.declared.Checked.{Checked}
@@ -37,14 +37,14 @@ module _ (text : List ℕ) where
   pub declaration-one : One (formOf text)
   declaration-one = any-two (formOf text)
 
-  pub walk-one : One (operandWalk text)
-  walk-one = any-two (operandWalk text)
+  pub walk-one : One (walkOf text)
+  walk-one = any-two (walkOf text)
 
   pub walk-step-one : One (walkStep text)
   walk-step-one = any-two (walkStep text)
 
-  pub tour-one : One (setTour text)
-  tour-one = any-two (setTour text)
+  pub tour-one : One (tourAt text)
+  tour-one = any-two (tourAt text)
 
   pub tour-step-one : One (tourStep text)
   tour-step-one = any-two (tourStep text)

@@ -23,7 +23,7 @@ use Rattle.netlist.proofs.Laying.{Long, Layout, view-layout, good-is, layout-go
 use Rattle.scanning.specs.Whole.{wholeOf}
 use Rattle.lexis.specs.Tokens.{tokenAt, insideAt}
 use Rattle.signs.specs.Decoding.{decodedInto}
-use Rattle.brackets.specs.Walks.{operandWalk, walkStep, setTour, tourStep}
+use Rattle.brackets.specs.Walks.{walkOf, walkStep, tourAt, tourStep}
 use Rattle.form.specs.Forms.{formOf}
 use Rattle.declaring.specs.Reading.{says, reading}
 use Rattle.reading.specs.Outcome.{readOf, made, workLength}
@@ -140,7 +140,7 @@ one-answer f = any-two f
 
 -- of each entry point: on a text,
 pub texts-answered : One wholeOf
-    × ((text : List ℕ) → One (tokenAt text) × (One (insideAt text) × (One (formOf text) × (One (operandWalk text) × (One (walkStep text) × (One (setTour text) × (One (tourStep text) × ((from : ℕ) → One (decodedInto text from)))))))))
+    × ((text : List ℕ) → One (tokenAt text) × (One (insideAt text) × (One (formOf text) × (One (walkOf text) × (One (walkStep text) × (One (tourAt text) × (One (tourStep text) × ((from : ℕ) → One (decodedInto text from)))))))))
 texts-answered = (whole-one, λ text. (token-one text, (inside-one text, (declaration-one text, (walk-one text, (walk-step-one text, (tour-one text, (tour-step-one text, decode-one text))))))))
 
 -- .. with lent tables, and on them,

@@ -10,13 +10,11 @@ use ground::Refusal;
 use reading::Read;
 use scanning::Whole;
 use scanning::scan::whole;
-use signs::classes::classes;
 ghost use mathlib.Core.Path.{_≡_};
 ghost use Prim.Native.Nat.{_≤_};
 ghost use lib.ListN.{length};
 ghost use Rattle.ground.specs.Regions.{zeros};
 ghost use Rattle.ground.specs.Refusals.{at, refusal};
-ghost use Rattle.signs.specs.Bytes.{table};
 ghost use Rattle.declaring.specs.Going.{Blank};
 ghost use Rattle.declaring.specs.Reading.{reading};
 ghost use Rattle.reading.specs.Answers.{Answers, Clears};
@@ -25,19 +23,18 @@ ghost use Rattle.reading.specs.declared.Read.the-variants as read;
 
 // A text that is sound as a whole, into blank tables.
 fn read_sound(
-    t: &[u8; 256],
     text: &[u8],
     rows: &mut [u32],
     strings: &mut [u8],
     bits: &mut [u8],
     work: &mut [u32],
 ) -> Read
-    requires { ⌜ (now t ≡ table) × (length (now text) ≤ 65536) × Blank (now rows) (now bits) (now work) × (now strings ≡ zeros 16384) ⌝ }
+    requires { ⌜ (length (now text) ≤ 65536) × Blank (now rows) (now bits) (now work) × (now strings ≡ zeros 16384) ⌝ }
     ensures { λ r. ⌜ Answers (now (text .entry)) r (now (rows .exit)) (now (strings .exit)) (now (bits .exit)) ⌝ }
 {
-    match declarations(t, text, rows, bits, work) {
+    match declarations(text, rows, bits, work) {
         Told::Stopped(g) => Read::Refused(g),
-        Told::All(n) => end_reading(t, text, rows, strings, work, n),
+        Told::All(n) => end_reading(text, rows, strings, work, n),
     }
 }
 
@@ -71,8 +68,7 @@ fn read_blank(
     match whole(text) {
         Whole::Unsound(g) => Read::Refused(g),
         Whole::Sound => {
-            let t = classes();
-            let r = read_sound(&t, text, rows, strings, bits, work);
+            let r = read_sound(text, rows, strings, bits, work);
             cleared(r, rows, strings, bits)
         }
     }

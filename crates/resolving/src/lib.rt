@@ -6,13 +6,12 @@ use brackets::Part;
 use brackets::Piece;
 use brackets::Walked;
 use ground::Place;
-use walks::walk_of;
-use walks::walk_step;
+use walks::operand_walk;
+use walks::walk_next;
 use words::word_at;
 ghost use mathlib.Core.Path.{_≡_};
 ghost use Prim.Native.Nat.{_≤_};
 ghost use lib.ListN.{length};
-ghost use Rattle.signs.specs.Bytes.{table};
 ghost use Rattle.brackets.specs.Parts.{partsAt};
 ghost use Rattle.saying.specs.Pieces.{baseIn};
 ghost use Rattle.resolving.specs.Resolving.{RunsNumbered, resolvesIn, rowResolves, rowsResolve, baseLost, lostFrom, operandOf, lostOf};
@@ -95,13 +94,12 @@ fn is_lost(map: &[u32], cells: &[u32], base: Base) -> bool
 }
 
 // The first piece of an operand that does not resolve.
-fn lost_in(t: &[u8; 256], text: &[u8], operand: Operand, map: &[u32], cells: &[u32]) -> Lost
-    requires { ⌜ (now t ≡ table) × (length (now text) ≤ 65536) ⌝ }
+fn lost_in(text: &[u8], operand: Operand, map: &[u32], cells: &[u32]) -> Lost
     ensures { λ r. ⌜ r ≡ lostFrom (now (map .entry)) (now (cells .entry)) (partsAt (now (text .entry)) operand) ⌝ }
 {
-    let mut walk = walk_of(t, text, operand);
+    let mut walk = operand_walk(text, operand);
     loop {
-        let step = walk_step(t, text, walk);
+        let step = walk_next(text, walk);
         let Walked::Part(part, place, next) = step else {
             return Lost::Nowhere;
         };
@@ -131,21 +129,14 @@ fn operand_of(word: u32) -> Operand
 }
 
 // The first piece that does not resolve, over the operands that the first n words of `places` tell.
-pub fn first_lost(
-    t: &[u8; 256],
-    text: &[u8],
-    places: &[u32],
-    n: usize,
-    map: &[u32],
-    cells: &[u32],
-) -> Lost
-    requires { ⌜ (now t ≡ table) × (length (now text) ≤ 65536) × (n ≤ length (now places)) ⌝ }
+pub fn first_lost(text: &[u8], places: &[u32], n: usize, map: &[u32], cells: &[u32]) -> Lost
+    requires { ⌜ n ≤ length (now places) ⌝ }
     ensures { λ r. ⌜ r ≡ lostOf (now (text .entry)) (now (map .entry)) (now (cells .entry)) n (now (places .entry)) ⌝ }
 {
     let mut i: usize = 0;
     while i < n {
         let operand = operand_of(places[i]);
-        let lost = lost_in(t, text, operand, map, cells);
+        let lost = lost_in(text, operand, map, cells);
         if let Lost::At(place) = lost {
             return Lost::At(place);
         }

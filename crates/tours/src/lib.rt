@@ -1,4 +1,4 @@
-// Tours: the members of a set again, one a step, for whoever builds their rows. It promises that step by step they are the members that the
+// Tours: the members of a set again, one a step, for whoever builds their rows, in a text of any length. It promises that step by step they are the members that the
 // definitions of brackets give. Reading stands above it.
 use brackets::Membered;
 use brackets::Members;
@@ -9,14 +9,12 @@ use lexis::Reader;
 use sets::next_member;
 use signs::classes::classes;
 ghost use mathlib.Core.Path.{_≡_};
-ghost use Prim.Native.Nat.{_<_, _≤_};
-ghost use lib.ListN.{length};
+ghost use Prim.Native.Nat.{_<_};
 ghost use Rattle.signs.specs.Bytes.{table};
-ghost use Rattle.brackets.specs.Walks.{tourAt, tourOn, tourStep, setTour};
+ghost use Rattle.brackets.specs.Walks.{tourAt, tourOn, tourStep};
 
 // The walk over the members of a set.
 pub fn tour_of(text: &[u8], members: Members) -> Tour
-    requires { ⌜ length (now text) ≤ 65536 ⌝ }
     ensures { λ r. ⌜ r ≡ tourAt (now (text .entry)) (members .at) ⌝ }
 {
     let at = members.at;
@@ -40,7 +38,7 @@ fn tour_on(left: usize, found: Membered) -> Toured
     }
 }
 
-// The next member of the walk.
+// The next member of the walk, with a lent table.
 pub fn tour_step(t: &[u8; 256], text: &[u8], tour: Tour) -> Toured
     requires { ⌜ now t ≡ table ⌝ }
     ensures { λ r. ⌜ r ≡ tourStep (now (text .entry)) tour ⌝ }
@@ -53,23 +51,7 @@ pub fn tour_step(t: &[u8; 256], text: &[u8], tour: Tour) -> Toured
     tour_on(left, next_member(t, text, next))
 }
 
-// The walk over the members of a set in any text.
-pub fn set_tour(text: &[u8], members: Members) -> Tour
-    ensures { λ r. ⌜ r ≡ setTour (now (text .entry)) (members .at) ⌝ }
-{
-    let from = members.at;
-    if 65536 < text.len() {
-        return Tour {
-            next: Reader {
-                next: Place { at: from },
-            },
-            left: 0,
-        };
-    }
-    tour_of(text, members)
-}
-
-// The next member of a walk, likewise.
+// The next member of the walk, for callers who have no table.
 pub fn tour_next(text: &[u8], tour: Tour) -> Toured
     ensures { λ r. ⌜ r ≡ tourStep (now (text .entry)) tour ⌝ }
 {

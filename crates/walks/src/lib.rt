@@ -1,5 +1,6 @@
-// Walks: the parts of an operand again, one a step, for whoever builds their rows. It promises that step by step they are the parts that
-// the definitions of brackets give. Reading stands above it.
+// Walks: the parts of an operand again, one a step, in a text of any length. It promises that step by step they are the parts that the
+// definitions of brackets give, and asks for no table of classes: whoever walks has found a fault, or a part without bits. Resolving stands
+// above it.
 use brackets::Operand;
 use brackets::Parted;
 use brackets::Walk;
@@ -8,18 +9,14 @@ use enclosed::measures::next_part;
 use ground::Place;
 use lexis::Reader;
 use lexis::Step;
-use signs::classes::classes;
 use tokenparts::is_part;
 use tokenparts::part_of;
 ghost use mathlib.Core.Path.{_≡_};
-ghost use Prim.Native.Nat.{_<_, _≤_};
-ghost use lib.ListN.{length};
-ghost use Rattle.signs.specs.Bytes.{table};
-ghost use Rattle.brackets.specs.Walks.{walkFrom, walkOf, walkOn, walkStep, operandWalk};
+ghost use Prim.Native.Nat.{_<_};
+ghost use Rattle.brackets.specs.Walks.{walkFrom, walkOf, walkOn, walkStep};
 
 // The walk over an operand, by its first token.
 fn walk_from(text: &[u8], first: Step) -> Walk
-    requires { ⌜ length (now text) ≤ 65536 ⌝ }
     ensures { λ r. ⌜ r ≡ walkFrom (now (text .entry)) first ⌝ }
 {
     match first {
@@ -35,14 +32,13 @@ fn walk_from(text: &[u8], first: Step) -> Walk
 }
 
 // The walk over the parts of an operand, the most significant first.
-pub fn walk_of(t: &[u8; 256], text: &[u8], operand: Operand) -> Walk
-    requires { ⌜ (now t ≡ table) × (length (now text) ≤ 65536) ⌝ }
+pub fn operand_walk(text: &[u8], operand: Operand) -> Walk
     ensures { λ r. ⌜ r ≡ walkOf (now (text .entry)) operand ⌝ }
 {
     let at = operand.at;
     if operand.given {
         let reader = Reader { next: Place { at } };
-        return walk_from(text, reader.next_with(t, text));
+        return walk_from(text, reader.next(text));
     }
     Walk::Past
 }
@@ -59,8 +55,7 @@ fn walk_on(left: usize, found: Parted) -> Walked
 }
 
 // The next part of the walk.
-pub fn walk_step(t: &[u8; 256], text: &[u8], walk: Walk) -> Walked
-    requires { ⌜ now t ≡ table ⌝ }
+pub fn walk_next(text: &[u8], walk: Walk) -> Walked
     ensures { λ r. ⌜ r ≡ walkStep (now (text .entry)) walk ⌝ }
 {
     match walk {
@@ -70,26 +65,7 @@ pub fn walk_step(t: &[u8; 256], text: &[u8], walk: Walk) -> Walked
             if left == 0 {
                 return Walked::Done;
             }
-            walk_on(left, next_part(t, text, r))
+            walk_on(left, next_part(text, r))
         }
     }
-}
-
-// The walk over the parts of an operand in any text, for callers who have no table.
-pub fn operand_walk(text: &[u8], operand: Operand) -> Walk
-    ensures { λ r. ⌜ r ≡ operandWalk (now (text .entry)) operand ⌝ }
-{
-    if 65536 < text.len() {
-        return Walk::Past;
-    }
-    let t = classes();
-    walk_of(&t, text, operand)
-}
-
-// The next part of a walk, likewise.
-pub fn walk_next(text: &[u8], walk: Walk) -> Walked
-    ensures { λ r. ⌜ r ≡ walkStep (now (text .entry)) walk ⌝ }
-{
-    let t = classes();
-    walk_step(&t, text, walk)
 }

@@ -15,10 +15,10 @@ use Rattle.finishing.proofs.finish.finish.Reads as finish-reads
 lost-piece-requires : tie.Need-lost-piece-requires
 lost-piece-requires c κs = let p = c .before .before .before .before .before in
     let a = p .args in
-    let s = p .pre .2 in
+    let s = p .pre .0 in
     let d = s .whole .noted in
     let few = few-rows (a .text .now) (s .whole .so) (a .n) (a .rows .now) (s .bits) (a .work .now) d in
-    (p .pre .0, p .pre .1, d .longRows, d .longWork, few .2, few .3)
+    (d .longRows, d .longWork, few .2, few .3)
 
 -- src/ending.rt:62:18
 enum-known-place : tie.Need-enum-known-place
@@ -31,8 +31,8 @@ enum-told c = search needs
 -- src/ending.rt:64:13
 finish-requires : tie.Need-finish-requires
 finish-requires c κs = let p = c .before .before .before .before .before .before .before .before .before .before in
-    let s = p .pre .2 in
-    (record { so = s .whole .so; bits = s .bits; ready = all-ready (c .before .before .before .before .lost-piece .ensures) (c .before .before .enum-told .given .1) (s .bits) (s .whole) }, ap length (p .pre .3) ∙ length-zeros 16384)
+    let s = p .pre .0 in
+    (record { so = s .whole .so; bits = s .bits; ready = all-ready (c .before .before .before .before .lost-piece .ensures) (c .before .before .enum-told .given .1) (s .bits) (s .whole) }, ap length (p .pre .1) ∙ length-zeros 16384)
 
 -- src/ending.rt:50:1
 same-length : tie.Need-same-length
@@ -52,7 +52,7 @@ same-length-3 c = search needs
 
 -- src/ending.rt:50:1
 returns-2 : tie.Need-returns-2
-returns-2 c = end-found (c .before .before .before .before .before .before .before .before .before .lost-piece .ensures) (c .before .before .before .before .before .before .before .enum-told .given .1) (c .before .before .before .before .before .before .before .before .before .before .before .before .before .before .before .pre .3) (c .before .before .before .before .finish .ensures)
+returns-2 c = end-found (c .before .before .before .before .before .before .before .before .before .lost-piece .ensures) (c .before .before .before .before .before .before .before .enum-told .given .1) (c .before .before .before .before .before .before .before .before .before .before .before .before .before .before .before .pre .1) (c .before .before .before .before .finish .ensures)
 
 pub end-reading-spec : {M : Type 1} → statement M
 end-reading-spec =

@@ -15,7 +15,7 @@ use Rattle.resolving.proofs.first_lost.Reads as first-lost-reads
 
 -- src/ending.rt:41:8
 all-found-requires : tie.Need-all-found-requires
-all-found-requires c κs = let p = c .before .before .before in (p .pre .2, p .pre .3, p .pre .5)
+all-found-requires c κs = let p = c .before .before .before in (p .pre .0, p .pre .1, p .pre .3)
 
 -- src/ending.rt:42:9
 returns : tie.Need-returns
@@ -40,7 +40,7 @@ cells-of-requires c κs = search needs
 -- src/ending.rt:44:5
 first-lost-requires : tie.Need-first-lost-requires
 first-lost-requires c κs = let p = c .before .before .before .before .before .before .before .before .before in
-    (p .pre .0, p .pre .1, rw (c .before .before .before .places-of .ensures) (omega (arith, part-length 131072 1536 (p .args .work .now) (omega (arith, p .pre .3)), p .pre .4)))
+    rw (c .before .before .before .places-of .ensures) (omega (arith, part-length 131072 1536 (p .args .work .now) (omega (arith, p .pre .1)), p .pre .2))
 
 -- src/ending.rt:37:1
 returns-2 : tie.Need-returns-2

@@ -9,7 +9,6 @@ use Rattle.reader.proofs.read_blank.Statement.{statement}
 use Rattle.reader.proofs.read_blank.Tie as tie
 use Rattle.reader.proofs.read_blank.Reads as reads
 use Rattle.reader.proofs.read_blank.Lts as lts
-use Rattle.signs.proofs.classes.classes.Reads as classes-reads
 use Rattle.scanning.proofs.scan.whole.Reads as whole-reads
 use Rattle.reader.proofs.cleared.Reads as cleared-reads
 use Rattle.reader.proofs.read_sound.Reads as read-sound-reads
@@ -26,18 +25,14 @@ enum-known-g c = search needs
 enum-told : tie.Need-enum-told
 enum-told c = search needs
 
--- src/lib.rt:85:21
-classes-requires : tie.Need-classes-requires
-classes-requires c κs = search needs
-
 -- src/lib.rt:86:17
 read-sound-requires : tie.Need-read-sound-requires
-read-sound-requires c κs = let p = c .before .before .before .before .before .before .before .before .before .before .before .before .before .before in
-    (c .before .before .before .before .before .classes .ensures, sound-short (p .args .text .now) (sym (c .before .before .before .before .before .before .before .before .whole .ensures) ∙ c .before .before .before .before .before .before .enum-told .given .1), p .pre .0, p .pre .1)
+read-sound-requires c κs = let p = c .before .before .before .before .before .before .before .before .before .before .before .before in
+    (sound-short (p .args .text .now) (sym (c .before .before .before .before .before .before .whole .ensures) ∙ c .before .before .before .before .enum-told .given .1), p .pre .0, p .pre .1)
 
 -- src/lib.rt:87:13
 cleared-requires : tie.Need-cleared-requires
-cleared-requires c κs = let p = c .before .before .before .before .before .before .before .before .before .before .before .before .before .before .before .before .before .before .before .before .before .before .before .before .before .before .pre in
+cleared-requires c κs = let p = c .before .before .before .before .before .before .before .before .before .before .before .before .before .before .before .before .before .before .before .before .before .before .before .before .pre in
     let k = c .before .before .before .before .before .before .before .before .before .before .before .read-sound .kept in
     (omega (arith, k, ap length (p .0 .rows), length-zeros 26307), omega (arith, k, ap length (p .1), length-zeros 16384), omega (arith, k, ap length (p .0 .bits), length-zeros 393728))
 
@@ -64,7 +59,7 @@ same-length-4 c = search needs
 
 -- src/lib.rt:72:1
 returns-2 : tie.Need-returns-2
-returns-2 c = sound-read (c .before .before .before .before .before .before .before .before .before .before .before .before .before .before .before .before .before .before .before .before .before .before .before .before .before .before .before .before .before .before .before .before .before .args .text .now) (sym (c .before .before .before .before .before .before .before .before .before .before .before .before .before .before .before .before .before .before .before .before .before .before .before .before .before .before .before .whole .ensures) ∙ c .before .before .before .before .before .before .before .before .before .before .before .before .before .before .before .before .before .before .before .before .before .before .before .before .before .enum-told .given .1) (c .before .before .before .before .before .before .before .before .before .before .before .before .before .before .before .before .before .before .read-sound .ensures) (c .before .before .before .before .before .before .cleared .ensures)
+returns-2 c = sound-read (c .before .before .before .before .before .before .before .before .before .before .before .before .before .before .before .before .before .before .before .before .before .before .before .before .before .before .before .before .before .before .before .args .text .now) (sym (c .before .before .before .before .before .before .before .before .before .before .before .before .before .before .before .before .before .before .before .before .before .before .before .before .before .whole .ensures) ∙ c .before .before .before .before .before .before .before .before .before .before .before .before .before .before .before .before .before .before .before .before .before .before .before .enum-told .given .1) (c .before .before .before .before .before .before .before .before .before .before .before .before .before .before .before .before .before .before .read-sound .ensures) (c .before .before .before .before .before .before .cleared .ensures)
 
 pub read-blank-spec : {M : Type 1} → statement M
 read-blank-spec =
@@ -73,7 +68,6 @@ read-blank-spec =
     whole-requires
     enum-known-g
     enum-told
-    classes-requires
     read-sound-requires
     cleared-requires
     returns

@@ -22,7 +22,7 @@ enum-known-n c = search needs
 -- src/lib.rt:51:25
 end-reading-requires : tie.Need-end-reading-requires
 end-reading-requires c κs = let p = c .before .before .before .before .before .before .before .before .before .before .before .before .before .before .before .before .before .before .before .before .before in
-    (p .pre .0, p .pre .1, record { bits = _; whole = sound-all (c .before .before .before .before .before .before .before .before .before .before .before .before .declarations .ensures) _ (c .before .before .before .before .n .given .1) }, p .pre .3)
+    (record { bits = _; whole = sound-all (c .before .before .before .before .before .before .before .before .before .before .before .before .declarations .ensures) _ (c .before .before .before .before .n .given .1) }, p .pre .2)
 
 -- src/lib.rt:38:1
 same-length : tie.Need-same-length

@@ -14,10 +14,10 @@ use Rattle.resolving.proofs.lost_in.Reads as lost-in-reads
 use Rattle.resolving.proofs.operand_of.Reads as operand-of-reads
 
 abbrev Inv-loop : tie.InvT-loop
-Inv-loop t text places n map cells i₀ i = (i ≤ n) × (lostOf text map cells (n - i) (drop i places) ≡ lostOf text map cells n places)
+Inv-loop text places n map cells i₀ i = (i ≤ n) × (lostOf text map cells (n - i) (drop i places) ≡ lostOf text map cells n places)
 
 abbrev μ-loop : tie.MeasureT-loop
-μ-loop t text places n map cells i₀ i = n - i
+μ-loop text places n map cells i₀ i = n - i
 
 -- src/lib.rt:136:5
 loop-holds : tie.Need-loop-holds Inv-loop μ-loop
@@ -29,7 +29,7 @@ mul-operand-of c = search needs
 
 -- src/lib.rt:137:34
 shared-slice-read-operand-of : tie.Need-shared-slice-read-operand-of Inv-loop μ-loop
-shared-slice-read-operand-of c = let h = c .before .before .before .before .before .before .before .pre .2 in omega (arith, h)
+shared-slice-read-operand-of c = let h = c .before .before .before .before .before .before .before .pre in omega (arith, h)
 
 -- src/lib.rt:137:13
 operand-of-requires : tie.Need-operand-of-requires Inv-loop μ-loop

@@ -10,28 +10,28 @@ use Rattle.resolving.proofs.lost_in.Statement.{statement}
 use Rattle.resolving.proofs.lost_in.Tie as tie
 use Rattle.resolving.proofs.lost_in.Reads as reads
 use Rattle.resolving.proofs.lost_in.Lts as lts
-use Rattle.walks.proofs.walk_of.Reads as walk-of-reads
-use Rattle.walks.proofs.walk_step.Reads as walk-step-reads
+use Rattle.walks.proofs.operand_walk.Reads as operand-walk-reads
+use Rattle.walks.proofs.walk_next.Reads as walk-next-reads
 use Rattle.resolving.proofs.base_of.Reads as base-of-reads
 use Rattle.resolving.proofs.is_lost.Reads as is-lost-reads
 
 abbrev Inv-loop : tie.InvT-loop
-Inv-loop t text map cells walk₀ walk = lostFrom map cells (partsLeft text walk) ≡ lostFrom map cells (partsLeft text walk₀)
+Inv-loop text map cells walk₀ walk = lostFrom map cells (partsLeft text walk) ≡ lostFrom map cells (partsLeft text walk₀)
 
 abbrev μ-loop : tie.MeasureT-loop
-μ-loop t text map cells walk₀ walk = mostParts walk
+μ-loop text map cells walk₀ walk = mostParts walk
 
 -- src/lib.rt:92:9
-walk-of-requires : tie.Need-walk-of-requires Inv-loop μ-loop
-walk-of-requires c κs = search needs
+operand-walk-requires : tie.Need-operand-walk-requires Inv-loop μ-loop
+operand-walk-requires c κs = search needs
 
 -- src/lib.rt:93:5
 loop-holds : tie.Need-loop-holds Inv-loop μ-loop
 loop-holds c = refl
 
 -- src/lib.rt:94:13
-walk-step-requires : tie.Need-walk-step-requires Inv-loop μ-loop
-walk-step-requires c κs = search needs
+walk-next-requires : tie.Need-walk-next-requires Inv-loop μ-loop
+walk-next-requires c κs = search needs
 
 -- src/lib.rt:95:26
 enum-known-step : tie.Need-enum-known-step Inv-loop μ-loop
@@ -45,9 +45,9 @@ enum-told c = search needs
 returns : tie.Need-returns Inv-loop μ-loop
 returns c = let a = c .before .before .before .before .before .before .before .before .args in
     let l = c .before .before .before .loop in
-    let e = sym (c .before .before .walk-step .ensures) ∙ c .enum-told .given .1 in
+    let e = sym (c .before .before .walk-next .ensures) ∙ c .enum-told .given .1 in
     sym (part-none (a .map .now) (a .cells .now)) ∙ ap (λ (v : _). lostFrom (a .map .now) (a .cells .now) (partsOn (a .text .now) v)) (sym e) ∙ ap (lostFrom (a .map .now) (a .cells .now)) (sym (walk-goes (a .text .now) (l .walk))) ∙ l .inv
-    ∙ ap (lostFrom (a .map .now) (a .cells .now)) (ap (partsLeft (a .text .now)) (c .before .before .before .before .walk-of .ensures) ∙ walk-starts (a .text .now) (a .operand))
+    ∙ ap (lostFrom (a .map .now) (a .cells .now)) (ap (partsLeft (a .text .now)) (c .before .before .before .before .operand-walk .ensures) ∙ walk-starts (a .text .now) (a .operand))
 
 -- src/lib.rt:98:13
 base-of-requires : tie.Need-base-of-requires Inv-loop μ-loop
@@ -61,20 +61,20 @@ is-lost-requires c κs = search needs
 returns-2 : tie.Need-returns-2 Inv-loop μ-loop
 returns-2 c = let a = c .before .before .before .before .before .before .before .before .before .before .before .before .args in
     let l = c .before .before .before .before .before .before .before .loop in
-    let e = sym (c .before .before .before .before .before .before .walk-step .ensures) ∙ c .before .before .before .before .step .given .1 in
+    let e = sym (c .before .before .before .before .before .before .walk-next .ensures) ∙ c .before .before .before .before .step .given .1 in
     let lost = sym (ap (baseLost (a .map .now) (a .cells .now)) (c .before .before .base-of .ensures)) ∙ sym (c .before .is-lost .ensures) ∙ c .if1 .taken in
     sym (part-stop (a .map .now) (a .cells .now) _ _ lost) ∙ ap (λ (v : _). lostFrom (a .map .now) (a .cells .now) (partsOn (a .text .now) v)) (sym e) ∙ ap (lostFrom (a .map .now) (a .cells .now)) (sym (walk-goes (a .text .now) (l .walk))) ∙ l .inv
-    ∙ ap (lostFrom (a .map .now) (a .cells .now)) (ap (partsLeft (a .text .now)) (c .before .before .before .before .before .before .before .before .walk-of .ensures) ∙ walk-starts (a .text .now) (a .operand))
+    ∙ ap (lostFrom (a .map .now) (a .cells .now)) (ap (partsLeft (a .text .now)) (c .before .before .before .before .before .before .before .before .operand-walk .ensures) ∙ walk-starts (a .text .now) (a .operand))
 
 -- src/lib.rt:93:5
 loop-less : tie.Need-loop-less Inv-loop μ-loop
-loop-less c = let a = c .before .before .before .before .before .before .before .before .before .before .before .before .args in walk-shrinks (a .text .now) (c .before .before .before .before .before .before .before .loop .walk) _ _ _ (sym (c .before .before .before .before .before .before .walk-step .ensures) ∙ c .before .before .before .before .step .given .1)
+loop-less c = let a = c .before .before .before .before .before .before .before .before .before .before .before .before .args in walk-shrinks (a .text .now) (c .before .before .before .before .before .before .before .loop .walk) _ _ _ (sym (c .before .before .before .before .before .before .walk-next .ensures) ∙ c .before .before .before .before .step .given .1)
 
 -- src/lib.rt:93:5
 loop-again : tie.Need-loop-again Inv-loop μ-loop
 loop-again c = let a = c .before .before .before .before .before .before .before .before .before .before .before .before .args in
     let l = c .before .before .before .before .before .before .before .loop in
-    let e = sym (c .before .before .before .before .before .before .walk-step .ensures) ∙ c .before .before .before .before .step .given .1 in
+    let e = sym (c .before .before .before .before .before .before .walk-next .ensures) ∙ c .before .before .before .before .step .given .1 in
     let found = sym (ap (baseLost (a .map .now) (a .cells .now)) (c .before .before .base-of .ensures)) ∙ sym (c .before .is-lost .ensures) ∙ c .if1 .left in
     sym (part-on (a .map .now) (a .cells .now) _ _ found) ∙ ap (λ (v : _). lostFrom (a .map .now) (a .cells .now) (partsOn (a .text .now) v)) (sym e) ∙ ap (lostFrom (a .map .now) (a .cells .now)) (sym (walk-goes (a .text .now) (l .walk))) ∙ l .inv
 
@@ -84,9 +84,9 @@ lost-in-spec =
     (tie.spec
     Inv-loop
     μ-loop
-    walk-of-requires
+    operand-walk-requires
     loop-holds
-    walk-step-requires
+    walk-next-requires
     enum-known-step
     enum-told
     returns

@@ -1,8 +1,8 @@
 use borrow.Author.Tests.{eq-eqb, ne-eqb}
 use Rattle.brackets.specs.Walks.{walkStep}
 use borrow.Author.Needs.{needs}
-use Rattle.walks.proofs.walk_step.Statement.{statement}
-use Rattle.walks.proofs.walk_step.Tie as tie
+use Rattle.walks.proofs.walk_next.Statement.{statement}
+use Rattle.walks.proofs.walk_next.Tie as tie
 
 enum-told : tie.Need-enum-told
 enum-told c = search needs
@@ -35,8 +35,8 @@ returns-4 : tie.Need-returns-4
 unfolding walkStep
 returns-4 c = rw (c .before .before .before .before .walk2 .given .1, ne-eqb _ 0 (c .before .before .if1 .left), ← c .before .next-part .ensures) (c .walk-on .ensures)
 
-pub walk-step-spec : {M : Type 1} → statement M
-walk-step-spec =
+pub walk-next-spec : {M : Type 1} → statement M
+walk-next-spec =
     tie.close
     (tie.spec
     enum-told
