@@ -25,6 +25,8 @@ use noting::Ruling;
 use noting::Tally;
 use noting::refuse;
 use ranges::bad_range;
+use regions::meta_numbers_of;
+use regions::metas_of;
 use tours::tour_of;
 use tours::tour_step;
 ghost use mathlib.Core.Path.{_≡_};
@@ -483,10 +485,10 @@ fn put_number(map: &mut [u32], index: u32, n: usize)
 
 // THE REGIONS of the lent slices. The row, with the map of the work space.
 fn row_in(text: &[u8], work: &[u32], decl: Decl) -> MetaRow
-    requires { ⌜ (length (now text) ≤ 65536) × (length (now work) ≡ 132608) × DeclIn (now text) decl ⌝ }
+    requires { ⌜ (length (now text) ≤ 65536) × DeclIn (now text) decl ⌝ }
     ensures { λ r. ⌜ ((ns : List ℕ) → Maps ns (metaMapIn (now (work .entry))) → r ≡ rowFor ns decl) ⌝ }
 {
-    row_for(text, &work[65536..131072], decl)
+    row_for(text, meta_numbers_of(work), decl)
 }
 
 // The members and the row, in their regions of the rows.
@@ -519,7 +521,7 @@ fn add_rows(
     requires { ⌜ (now t ≡ table) × (length (now text) ≤ 65536) × (length (now rows) ≡ 26307) × (length (now work) ≡ 132608) × MetaRoom row n × ((ns : List ℕ) → n .members + length (membersSaid (now text) ns decl) ≤ 1024) ⌝ }
     ensures { λ _. ⌜ ((ns : List ℕ) → Maps ns (metaMapIn (now (work .entry))) → now (rows .exit) ≡ rowsWith (now (rows .entry)) n (membersSaid (now (text .entry)) ns decl) row) ⌝ }
 {
-    put_rows(t, text, decl, row, &work[65536..131072], rows, n);
+    put_rows(t, text, decl, row, meta_numbers_of(work), rows, n);
 }
 
 // The trits in their region of the bits.
@@ -576,7 +578,7 @@ fn ruled_in(
     requires { ⌜ (now t ≡ table) × (length (now text) ≤ 65536) × (length (now rows) ≡ 26307) × (length (now work) ≡ 132608) × Formed (now text) d × (isMetadata (d .decl) ≡ true) × (n .strings ≤ 16384) × (n .members ≤ 1024) ⌝ }
     ensures { λ r. ⌜ ((so : Sofar) (pool trits : List ℕ) → MetasHeld (now (text .entry)) (so .netlist .metas) (so .metaNumbers) (metasIn (now (rows .entry))) pool trits (metaMapIn (now (work .entry))) → Tallied (so .netlist) n → row ≡ rowFor (so .metaNumbers) (d .decl) → r ≡ rulingOf (ruledOut (now (text .entry)) so d)) ⌝ }
 {
-    meta_ruled(t, text, d, row, &work[65536..131072], &rows[3..8195], n)
+    meta_ruled(t, text, d, row, meta_numbers_of(work), metas_of(rows), n)
 }
 
 // A row more in the tables, and its number in the map.

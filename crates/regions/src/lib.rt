@@ -27,8 +27,8 @@ fn bytes_at(s: &[u8], from: usize, size: usize) -> &[u8]
     if s.len() - from < size {
         return &s[from..];
     }
-    let end = from + size;
-    &s[from..end]
+    let past = from + size;
+    &s[from..past]
 }
 
 // ROWS: three counts, then metadata, set members, I/O, cells and runs.
@@ -81,11 +81,17 @@ pub fn run_trits_of(bits: &[u8]) -> &[u8]
     bytes_at(bits, 131072, 262656)
 }
 
-// THE READER'S WORK SPACE: the rows of cell numbers stand first, the places of operands last.
+// THE READER'S WORK SPACE: the rows of cell numbers, those of metadata numbers, then the places of operands.
 pub fn cell_numbers_of(work: &[u32]) -> &[u32]
     ensures { λ r. ⌜ now r ≡ part 0 65536 (now (work .entry)) ⌝ }
 {
     words_at(work, 0, 65536)
+}
+
+pub fn meta_numbers_of(work: &[u32]) -> &[u32]
+    ensures { λ r. ⌜ now r ≡ part 65536 65536 (now (work .entry)) ⌝ }
+{
+    words_at(work, 65536, 65536)
 }
 
 pub fn places_of(work: &[u32]) -> &[u32]

@@ -40,6 +40,10 @@ use laying::Counts;
 use laying::Laid;
 use noting::Noting;
 use noting::Tally;
+use regions::cell_numbers_of;
+use regions::cells_of;
+use regions::meta_numbers_of;
+use regions::metas_of;
 use taken::cell_taken;
 
 fn name_from(w: Wiring) -> usize
@@ -214,18 +218,16 @@ fn lay_runs(
 
 // The row of the cell's number plus one, 0 where it is new.
 fn number_row(work: &[u32], index: u32) -> u32
-    requires { ⌜ length (now work) ≡ 132608 ⌝ }
     ensures { λ row. ⌜ ((numbers : List ℕ) → Maps numbers (cellMapIn (now (work .entry))) → index < 65536 → row ≡ rowOf numbers index) ⌝ }
 {
-    row_of(&work[0..65536], index)
+    row_of(cell_numbers_of(work), index)
 }
 
 // The row of the cell's metadata plus one.
 fn meta_row(work: &[u32], r: Ref) -> u32
-    requires { ⌜ length (now work) ≡ 132608 ⌝ }
     ensures { λ row. ⌜ ((ns : List ℕ) → Maps ns (metaMapIn (now (work .entry))) → r .index < 65536 → row ≡ refRow ns r) ⌝ }
 {
-    ref_row(&work[65536..131072], r)
+    ref_row(meta_numbers_of(work), r)
 }
 
 // Rule 9: the number, or the name among the cells of the kind.
@@ -247,25 +249,16 @@ fn is_twice(
     let kind = w.kind;
     let name = w.name;
     if has_name(kind) {
-        return cell_taken(
-            text,
-            &rows[9411..14019],
-            n,
-            kind,
-            name.from,
-            name.size,
-            fresh,
-        );
+        return cell_taken(text, cells_of(rows), n, kind, name.from, name.size, fresh);
     }
     false
 }
 
 // Rule 10.
 fn is_misnamed(rows: &[u32], work: &[u32], n: usize, r: Ref) -> bool
-    requires { ⌜ (length (now rows) ≡ 26307) × (length (now work) ≡ 132608) ⌝ }
     ensures { λ wrong. ⌜ ((ns : List MetaNote) (numbers : List ℕ) → metasIn (now (rows .entry)) ≡ pad 8192 (joined metaNote ns) → n ≡ length ns → Maps numbers (metaMapIn (now (work .entry))) → r .index < 65536 → wrong ≡ misnamed anyKind (kindsSaid ns) numbers r) ⌝ }
 {
-    misnames(&work[65536..131072], &rows[3..8195], n, r, Asks::Any)
+    misnames(meta_numbers_of(work), metas_of(rows), n, r, Asks::Any)
 }
 
 // A cell that passed the rules 9 to 12 and every limit but that of the runs.

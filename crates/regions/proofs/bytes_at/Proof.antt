@@ -42,8 +42,8 @@ returns-2 : tie.Need-returns-2
 returns-2 c = let a = c .before .before .before .args in part-rest (a .s .now) (a .from) (a .size) (c .before .if2 .taken)
 
 -- src/lib.rt:30:15
-add-end : tie.Need-add-end
-add-end c = search needs
+add-past : tie.Need-add-past
+add-past c = search needs
 
 -- src/lib.rt:31:5
 sub-result-3 : tie.Need-sub-result-3
@@ -74,7 +74,7 @@ bytes-at-spec =
     part-result-start-2
     part-result-end-2
     returns-2
-    add-end
+    add-past
     sub-result-3
     part-result-start-3
     part-result-end-3

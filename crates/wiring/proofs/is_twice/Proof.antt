@@ -1,5 +1,4 @@
 use mathlib.Core.Path.{sym, _∙_}
-use Rattle.ground.specs.Regions.{part}
 use Rattle.saying.specs.Notes.{cellsSaid}
 use Rattle.wiring.proofs.CellTwice.{twice-number, twice-name, twice-nothing}
 use borrow.Author.Needs.{needs}
@@ -16,23 +15,15 @@ returns c = let a = c .before .before .before .before .before .args in λ number
 has-name-requires : tie.Need-has-name-requires
 has-name-requires c κs = search needs
 
-sub-cell-taken : tie.Need-sub-cell-taken
-sub-cell-taken c = search needs
-
-part-cell-taken-start : tie.Need-part-cell-taken-start
-part-cell-taken-start c = search needs
-
-part-cell-taken-end : tie.Need-part-cell-taken-end
-part-cell-taken-end c = search needs
+cells-of-requires : tie.Need-cells-of-requires
+cells-of-requires c κs = search needs
 
 cell-taken-requires : tie.Need-cell-taken-requires
-unfolding part
-cell-taken-requires c κs = let s = c .before .before .before .before .before .before .before .before .before in (s .pre .2, s .pre .3 (sym (c .before .before .has-name .ensures) ∙ c .before .if2 .taken) .size, s .pre .4)
+cell-taken-requires c κs = let s = c .before .before .before .before .before .before .before .before .before in rw (c .cells-of .ensures) (s .pre .2, s .pre .3 (sym (c .before .before .has-name .ensures) ∙ c .before .if2 .taken) .size, s .pre .4)
 
 returns-2 : tie.Need-returns-2
-unfolding part
 returns-2 c = let a = c .before .before .before .before .before .before .before .before .before .before .args in λ numbers ns m small rows count sp.
-    twice-name (a .text .now) (a .w) numbers (a .index) (cellsSaid ns) _ (c .before .before .before .before .before .before .number-row .ensures numbers m small) (c .before .before .before .before .before .if1 .left) _ (sym (c .before .before .before .has-name .ensures) ∙ c .before .before .if2 .taken) (c .cell-taken .ensures ns rows count sp)
+    twice-name (a .text .now) (a .w) numbers (a .index) (cellsSaid ns) _ (c .before .before .before .before .before .before .number-row .ensures numbers m small) (c .before .before .before .before .before .if1 .left) _ (sym (c .before .before .before .has-name .ensures) ∙ c .before .before .if2 .taken) (let e = c .cell-taken .ensures in (rw (c .before .cells-of .ensures) at e) ns rows count sp)
 
 returns-3 : tie.Need-returns-3
 returns-3 c = let a = c .before .before .before .before .before .before .before .before .args in λ numbers ns m small rows count sp.
@@ -45,9 +36,7 @@ is-twice-spec =
     number-row-requires
     returns
     has-name-requires
-    sub-cell-taken
-    part-cell-taken-start
-    part-cell-taken-end
+    cells-of-requires
     cell-taken-requires
     returns-2
     returns-3)
