@@ -1,21 +1,15 @@
--- Worked cases, computed: longest runs, rules one short of what they ask, and tables that hold a netlist.
+-- Worked cases, computed: longest runs, and netlists that are valid but for one thing.
 use Prim.Native.Nat.{ℕ}
 use mathlib.Core.Path.{_≡_, refl}
 use mathlib.Core.Bool.{Bool, true, false}
 use mathlib.Core.List.{List, [], _∷_, _++_, map}
 use lib.ListN.{replicate}
 use Rattle.ground.specs.Lists.{every, allOf, total, joined}
-use Rattle.ground.specs.Refusals.{at, refusal}
-use Rattle.ground.specs.Regions.{zeros, blank, fits, pad, part}
 use Rattle.ground.specs.Text.{bytes, same}
 use Rattle.kinds.specs.Kinds.{kindAt}
-use Rattle.netlist.specs.Netlist.{Run, const, piece, Meta, Io, Cell, Netlist}
-use Rattle.netlist.specs.Runs.{Bit, known, bit, falling, knownBits, cut, longest}
+use Rattle.netlist.specs.Netlist.{Run, const, piece, Meta, Cell, Netlist}
+use Rattle.netlist.specs.Runs.{Bit, known, bit, cut, longest}
 use Rattle.netlist.specs.Rules.{taken, distinct, namesAs, roomy, metasSound, valid}
-use Rattle.netlist.specs.Tables.{Tables, metaRows, ioRows, cellRows, runRows, layout, rowsOf, bitsOf, tablesIn}
-use Rattle.netlist.specs.View.{metasIn, iosIn, runsIn, cellsIn, view}
-use Rattle.netlist.specs.Good.{laid, good, short, checkOf}
-use Rattle.netlist.specs.declared.Checked.the-variants.{Good, Refused}
 
 -- bits, and the runs that they are cut into
 pub record Cutting : Type 0 where
@@ -39,15 +33,15 @@ unfolding cut
 cut-right = refl
 
 -- netlists that are valid but for one thing
-meta : ℕ → List ℕ → List ℕ → ℕ → Meta
+unfoldable pub meta : ℕ → List ℕ → List ℕ → ℕ → Meta
 meta kind name members inside =
     record { kind = kind; name = name; text = []; members = members; bits = []; inside = inside; source = 0; number = 0; line = 0; column = 0; endLine = 0; endColumn = 0 }
 
-cell : ℕ → ℕ → List ℕ → ℕ → List Run → Cell
+unfoldable pub cell : ℕ → ℕ → List ℕ → ℕ → List Run → Cell
 cell kind width name m a = record { kind = kind; width = width; name = name; meta = m; a = a; b = []; c = [] }
 
 -- a scope, an ident in it, a set of both; a pad; a buffer that reads a later input, the input, an output
-netlist : List Meta → ℕ → ℕ → List Run → Netlist
+unfoldable pub netlist : List Meta → ℕ → ℕ → List Run → Netlist
 unfolding meta cell
 netlist metas width pads v = record {
   metas = metas;
@@ -55,11 +49,11 @@ netlist metas width pads v = record {
   cells = cell 3 4 [] 0 (piece 1 0 4 ∷ []) ∷ cell 1 width (bytes "size") 3 [] ∷ cell 2 0 (bytes "y") 1 v ∷ [];
 }
 
-metas : List Meta
+unfoldable pub metas : List Meta
 unfolding meta
 metas = meta 3 (bytes "top") [] 0 ∷ meta 5 (bytes "clk") [] 1 ∷ meta 1 [] (1 ∷ 2 ∷ []) 0 ∷ []
 
-whole : Netlist
+unfoldable pub whole : Netlist
 unfolding metas netlist
 whole = netlist metas 4 8 (const (2 ∷ []) ∷ piece 0 1 3 ∷ [])
 
@@ -98,24 +92,3 @@ judgements =
 judged-right : map (λ (j : Judged). valid (j .netlist)) judgements ≡ map (λ (j : Judged). j .valid) judgements
 unfolding judgements meta metas cell netlist whole every allOf total joined bytes same kindAt longest taken distinct namesAs roomy metasSound valid
 judged-right = refl
-
--- the tables of a netlist show it again, through slices of their full lengths; and they are good
-lent : Tables
-unfolding whole
-lent = tablesIn (rowsOf (layout whole)) (layout whole .strings) (bitsOf (layout whole))
-
-shown : view lent ≡ whole
-unfolding lent meta metas cell netlist whole joined bytes zeros pad part metaRows ioRows cellRows runRows layout rowsOf bitsOf tablesIn metasIn iosIn runsIn cellsIn view
-shown = refl
-
-held : good lent ≡ true
-unfolding lent meta metas cell netlist whole every allOf total joined bytes same kindAt longest taken distinct namesAs roomy metasSound valid zeros blank fits pad part metaRows ioRows cellRows runRows layout rowsOf bitsOf tablesIn metasIn iosIn runsIn cellsIn view laid good
-held = refl
-
--- lent slices: one word short is 1; zeros show no declaration, and are good; a row counted that is not there is 15
-lent-right :
-    (checkOf (replicate 26306 0) (replicate 16384 0) (replicate 393728 0) ≡ Refused (refusal 1 (at 0)))
-    × (checkOf (replicate 26307 0) (replicate 16384 0) (replicate 393728 0) ≡ Good)
-    × (checkOf (1 ∷ replicate 26306 0) (replicate 16384 0) (replicate 393728 0) ≡ Refused (refusal 15 (at 0)))
-unfolding every allOf total joined bytes same kindAt longest taken distinct namesAs roomy metasSound valid zeros blank fits pad part metaRows ioRows cellRows runRows tablesIn metasIn iosIn runsIn cellsIn view laid good short checkOf
-lent-right = (refl, refl, refl)

@@ -1,4 +1,4 @@
--- Worked cases, computed: lists with the place of their first bad record, and runs with their slots and outputs.
+-- Lists with the place of their first bad record, and runs with their slots and outputs, computed.
 use Prim.Native.Nat.{ℕ}
 use mathlib.Core.Path.{_≡_, refl}
 use mathlib.Core.List.{List, [], _∷_, _++_, map}
