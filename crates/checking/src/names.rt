@@ -1,5 +1,6 @@
 // Names declared twice (rule 9): a name beside those of the rows behind it. The rows are gone through from the last to the first, and each
 // name leaves its mark; only a name whose mark is there already is compared with the names behind it.
+use comparing::same_bytes;
 use marking::is_new_name;
 use pools::word_of;
 ghost use mathlib.Core.Path.{_≡_};
@@ -13,23 +14,6 @@ ghost use Rattle.netlist.specs.Rules.{taken, distinct};
 ghost use Rattle.netlist.specs.View.{word};
 ghost use Rattle.marking.specs.Marks.{Marked};
 ghost use Rattle.checking.specs.Names.{ioName, cellName, ioNamesIn, cellNamesIn, IosNamed, CellsNamed};
-
-// Whether two strings are the same; those of other lengths are never compared.
-fn same_bytes(a: &[u8], b: &[u8]) -> bool
-    ensures { λ r. ⌜ r ≡ same (now (a .entry)) (now (b .entry)) ⌝ }
-{
-    if a.len() == b.len() {
-        let mut i = 0;
-        while i < a.len() {
-            if a[i] != b[i] {
-                return false;
-            }
-            i += 1;
-        }
-        return true;
-    }
-    false
-}
 
 // Whether the I/O row i has the name.
 pub(crate) fn io_named(ios: &[u32], strings: &[u8], i: usize, name: &[u8]) -> bool

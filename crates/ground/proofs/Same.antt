@@ -20,15 +20,7 @@ module _ (a b : List ℕ) (i : ℕ) where
   unfolding same
   same-differ h k e = rw (rest-cons a i h, rest-cons b i k) (rw (ne-eqb (getD a i 0) (getD b i 0) e, same))
 
-  -- one of the two ends, or both
-  pub same-short : i < length a → length b ≤ i → false ≡ same (drop i a) (drop i b)
-  unfolding same
-  same-short h k = rw (rest-cons a i h, rest-end b i k)
-
-  pub same-long : length a ≤ i → i < length b → false ≡ same (drop i a) (drop i b)
-  unfolding same
-  same-long h k = rw (rest-end a i h, rest-cons b i k)
-
+  -- both end
   pub same-end : length a ≤ i → length b ≤ i → true ≡ same (drop i a) (drop i b)
   unfolding same
   same-end h k = rw (rest-end a i h, rest-end b i k)

@@ -1,31 +1,11 @@
 // The words, marks and keywords of a declaration: letters are compared where they stand, with no copy. It promises what the definitions of
 // brackets give for any text and token. Brackets stands below it; operands, sets and declarations above.
+use comparing::same_bytes;
 use lexis::Token;
 ghost use mathlib.Core.Path.{_≡_};
 ghost use lib.ListN.{take, drop};
-ghost use Rattle.ground.specs.Text.{same};
 ghost use Rattle.kinds.specs.Kinds.{keywords};
 ghost use Rattle.brackets.specs.Words.{isSort, isMark, isSpelled, numbered, kindOf};
-
-// The same bytes, one by one.
-fn same_bytes(a: &[u8], b: &[u8]) -> bool
-    ensures { λ r. ⌜ r ≡ same (now (a .entry)) (now (b .entry)) ⌝ }
-{
-    let mut i = 0;
-    while i < a.len() {
-        if b.len() <= i {
-            return false;
-        }
-        if a[i] != b[i] {
-            return false;
-        }
-        i += 1;
-    }
-    if i < b.len() {
-        return false;
-    }
-    true
-}
 
 // At most `size` bytes of the text, from a place on.
 fn run_at(text: &[u8], from: usize, size: usize) -> &[u8]

@@ -2,6 +2,7 @@
 // whose name equals the asked one, and so document 01's lookup in lent tables: a slice made of their I/O rows is searched. The check of
 // tables stands below it.
 use checking::check_tables;
+use comparing::same_bytes;
 use ground::Place;
 use ground::Refusal;
 use netlist::Checked;
@@ -14,7 +15,6 @@ ghost use mathlib.Core.Path.{_≡_};
 ghost use Prim.Native.Nat.{ℕ, _+_, _*_, _≤_, _<_};
 ghost use lib.ListN.{length, drop};
 ghost use Rattle.ground.specs.Choice.{pick};
-ghost use Rattle.ground.specs.Text.{same};
 ghost use Rattle.ground.specs.Refusals.{at, refusal};
 ghost use Rattle.netlist.specs.Good.{lookupOf, ioFrom};
 ghost use Rattle.netlist.specs.View.{iosIn};
@@ -26,23 +26,6 @@ pub struct Pad {
     pub start: u32,
     pub length: u32,
     pub width: u32,
-}
-
-// Whether two strings are the same; those of other lengths are never compared.
-fn same_bytes(a: &[u8], b: &[u8]) -> bool
-    ensures { λ r. ⌜ r ≡ same (now (a .entry)) (now (b .entry)) ⌝ }
-{
-    if a.len() == b.len() {
-        let mut i = 0;
-        while i < a.len() {
-            if a[i] != b[i] {
-                return false;
-            }
-            i += 1;
-        }
-        return true;
-    }
-    false
 }
 
 // Whether the pad's name lies in the strings and is the asked one.

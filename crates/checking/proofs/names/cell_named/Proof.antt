@@ -8,62 +8,47 @@ use Rattle.checking.proofs.names.cell_named.Statement.{statement}
 use Rattle.checking.proofs.names.cell_named.Tie as tie
 use Rattle.checking.proofs.names.cell_named.Reads as reads
 use Rattle.checking.proofs.names.cell_named.Lts as lts
-use Rattle.checking.proofs.names.same_bytes.Reads as same-bytes-reads
 use Rattle.pools.proofs.word_of.Reads as word-of-reads
 
--- src/names.rt:80:15
 mul-row : tie.Need-mul-row
 mul-row c = search needs
 
--- src/names.rt:81:8
 mul-if1 : tie.Need-mul-if1
 mul-if1 c = search needs
 
--- src/names.rt:81:8
 shared-slice-read-if1 : tie.Need-shared-slice-read-if1
 shared-slice-read-if1 c = search needs
 
--- src/names.rt:82:36
 add-word-of : tie.Need-add-word-of
 add-word-of c = search needs
 
--- src/names.rt:82:13
 word-of-requires : tie.Need-word-of-requires
 word-of-requires c κs = search needs
 
--- src/names.rt:83:42
 add-word-of-2 : tie.Need-add-word-of-2
 add-word-of-2 c = search needs
 
--- src/names.rt:83:27
 word-of-requires-2 : tie.Need-word-of-requires-2
 word-of-requires-2 c κs = search needs
 
--- src/names.rt:83:19
 add-end : tie.Need-add-end
 add-end c = search needs
 
--- src/names.rt:84:27
 sub-same-bytes : tie.Need-sub-same-bytes
 sub-same-bytes c = search needs
 
--- src/names.rt:84:27
 part-same-bytes-start : tie.Need-part-same-bytes-start
 part-same-bytes-start c = search needs
 
--- src/names.rt:84:27
 part-same-bytes-end : tie.Need-part-same-bytes-end
 part-same-bytes-end c = let a = c .before .before .before .before .before .before .before .args in let u = row-word (a .i * 9) 2 _ (a .cells .now) (c .before .word-of .ensures .0) in let v = row-word (a .i * 9) 3 _ (a .cells .now) (c .word-of2 .ensures .0) in omega (arith, u, v, c .before .before .before .before .before .before .before .pre .1)
 
--- src/names.rt:84:9
 same-bytes-requires : tie.Need-same-bytes-requires
 same-bytes-requires c κs = search needs
 
--- src/names.rt:84:9
 returns : tie.Need-returns
 returns c = let a = c .before .before .before .before .before .before .before .before .before .args in let u = row-word (a .i * 9) 2 _ (a .cells .now) (c .before .before .before .word-of .ensures .0) in let v = row-word (a .i * 9) 3 _ (a .cells .now) (c .before .before .word-of2 .ensures .0) in rw (← row-head (a .i * 9) _ (a .cells .now) refl, eq-eqb _ _ (c .before .before .before .before .if1 .taken), ← name-part (a .strings .now) _ _ _ _ u v) (c .same-bytes .ensures)
 
--- src/names.rt:76:1
 returns-2 : tie.Need-returns-2
 returns-2 c = let a = c .before .before .before .before .before .args in rw (← row-head (a .i * 9) _ (a .cells .now) refl, ne-eqb _ _ (c .if1 .left))
 

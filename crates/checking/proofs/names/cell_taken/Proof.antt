@@ -18,31 +18,24 @@ Inv-loop cells strings from n kind name i₀ i = (i ≤ n) × (taken name (cellN
 abbrev μ-loop : tie.MeasureT-loop
 μ-loop cells strings from n kind name i₀ i = n - i
 
--- src/names.rt:102:5
 loop-holds : tie.Need-loop-holds Inv-loop μ-loop
 loop-holds c = (c .before .before .before .pre .0, refl)
 
--- src/names.rt:103:12
 cell-named-requires : tie.Need-cell-named-requires Inv-loop μ-loop
 cell-named-requires c κs = let p = c .before .loop in (omega (arith, c .before .before .before .before .before .pre .1 .long, c .loop-test .taken), c .before .before .before .before .before .pre .1 .each (p .i) (c .loop-test .taken))
 
--- src/names.rt:104:13
 returns : tie.Need-returns Inv-loop μ-loop
 returns c = let a = c .before .before .before .before .before .before .before .args in let p = c .before .before .before .loop in cell-hit (a .strings .now) (a .kind) (a .n) (p .i) (a .cells .now) (c .before .before .loop-test .taken) (a .name .now) (sym (c .if1 .taken) ∙ c .before .cell-named .ensures) ∙ p .inv .1
 
--- src/names.rt:106:9
 add-i : tie.Need-add-i Inv-loop μ-loop
 add-i c = search needs
 
--- src/names.rt:102:5
 loop-less : tie.Need-loop-less Inv-loop μ-loop
 loop-less c = search needs
 
--- src/names.rt:102:5
 loop-again : tie.Need-loop-again Inv-loop μ-loop
 loop-again c = let a = c .before .before .before .before .before .before .before .args in let p = c .before .before .before .loop in (omega arith, cell-miss (a .strings .now) (a .kind) (a .n) (p .i) (a .cells .now) (c .before .before .loop-test .taken) (a .name .now) (sym (c .if1 .left) ∙ c .before .cell-named .ensures) ∙ p .inv .1)
 
--- src/names.rt:90:1
 returns-2 : tie.Need-returns-2 Inv-loop μ-loop
 returns-2 c = let a = c .before .before .before .before .before .args in let p = c .before .loop in cell-none (a .strings .now) (a .kind) (a .n) (p .i) (drop (p .i * 9) (a .cells .now)) (a .name .now) (c .loop-test .left) ∙ p .inv .1
 

@@ -21,39 +21,30 @@ Inv-loop cells strings n kind seen₀ i₀ seen i = (i ≤ n) × Marked kind see
 abbrev μ-loop : tie.MeasureT-loop
 μ-loop cells strings n kind seen₀ i₀ seen i = i
 
--- src/names.rt:148:5
 loop-holds : tie.Need-loop-holds Inv-loop μ-loop
 loop-holds c = let a = c .before .before .before .args in let s = cells-start (a .strings .now) (a .kind) (a .n) (a .cells .now) (a .seen .now) (c .before .before .before .pre .1) in (omega arith, s .0, s .1)
 
--- src/names.rt:149:9
 sub-i : tie.Need-sub-i Inv-loop μ-loop
 sub-i c = search needs
 
--- src/names.rt:150:12
 cell-again-requires : tie.Need-cell-again-requires Inv-loop μ-loop
 cell-again-requires c κs = let a = c .before .before .before .before .before .before .args in let p = c .before .before .loop in (omega (arith, p .inv .0), c .before .before .before .before .before .before .pre .0, cells-back (a .strings .now) (a .kind) (a .n) (a .cells .now) (p .seen) (p .i) (c .before .loop-test .taken) (p .inv .1))
 
--- src/names.rt:151:13
 same-length : tie.Need-same-length Inv-loop μ-loop
 same-length c = search needs
 
--- src/names.rt:151:13
 returns : tie.Need-returns Inv-loop μ-loop
 returns c = let a = c .before .before .before .before .before .before .before .before .before .before .args in let p = c .before .before .before .before .before .before .loop in cells-early (a .strings .now) (a .kind) (a .n) (a .cells .now) (p .i - 1) (omega (arith, p .inv .0)) (cell-twice (a .strings .now) (a .kind) (a .n) (p .i - 1) (a .cells .now) (omega (arith, p .inv .0)) (sym (c .if1 .taken) ∙ c .before .before .before .cell-again .ensures .0))
 
--- src/names.rt:148:5
 loop-less : tie.Need-loop-less Inv-loop μ-loop
 loop-less c = search needs
 
--- src/names.rt:148:5
 loop-again : tie.Need-loop-again Inv-loop μ-loop
 loop-again c = let a = c .before .before .before .before .before .before .before .before .before .before .args in let p = c .before .before .before .before .before .before .loop in (omega (arith, p .inv .0), c .before .before .before .cell-again .ensures .1, sym (cell-once (a .strings .now) (a .kind) (a .n) (p .i - 1) (a .cells .now) (omega (arith, p .inv .0)) (sym (c .if1 .left) ∙ c .before .before .before .cell-again .ensures .0)) ∙ cells-still (a .strings .now) (a .kind) (a .n) (a .cells .now) (p .seen) (p .i) (c .before .before .before .before .before .loop-test .taken) (p .inv .2))
 
--- src/names.rt:143:1
 same-length-2 : tie.Need-same-length-2 Inv-loop μ-loop
 same-length-2 c = search needs
 
--- src/names.rt:143:1
 returns-2 : tie.Need-returns-2 Inv-loop μ-loop
 returns-2 c = let a = c .before .before .before .before .before .args in let p = c .before .loop in cells-first (a .strings .now) (a .kind) (a .n) (a .cells .now) (p .i) (c .loop-test .left) (p .inv .2)
 

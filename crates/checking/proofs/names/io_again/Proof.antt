@@ -12,75 +12,57 @@ use Rattle.marking.proofs.is_new_name.Reads as is-new-name-reads
 use Rattle.checking.proofs.names.io_taken.Reads as io-taken-reads
 use Rattle.pools.proofs.word_of.Reads as word-of-reads
 
--- src/names.rt:65:15
 mul-row : tie.Need-mul-row
 mul-row c = search needs
 
--- src/names.rt:66:9
 word-of-requires : tie.Need-word-of-requires
 word-of-requires c κs = search needs
 
--- src/names.rt:67:36
 add-word-of : tie.Need-add-word-of
 add-word-of c = search needs
 
--- src/names.rt:67:23
 word-of-requires-2 : tie.Need-word-of-requires-2
 word-of-requires-2 c κs = search needs
 
--- src/names.rt:67:15
 add-end : tie.Need-add-end
 add-end c = search needs
 
--- src/names.rt:68:21
 sub-is-new-name : tie.Need-sub-is-new-name
 sub-is-new-name c = search needs
 
--- src/names.rt:68:21
 part-is-new-name-start : tie.Need-part-is-new-name-start
 part-is-new-name-start c = search needs
 
--- src/names.rt:68:21
 part-is-new-name-end : tie.Need-part-is-new-name-end
 part-is-new-name-end c = let a = c .before .before .before .before .before .before .args in let u = row-head (a .i * 3) _ (a .ios .now) (c .before .before .word-of .ensures .0) in let v = row-word (a .i * 3) 1 _ (a .ios .now) (c .before .word-of2 .ensures .0) in omega (arith, u, v, c .before .before .before .before .before .before .pre .1 .each (a .i) (c .before .before .before .before .before .before .pre .0))
 
--- src/names.rt:68:8
 is-new-name-requires : tie.Need-is-new-name-requires
 is-new-name-requires c κs = search needs
 
--- src/names.rt:69:9
 same-length : tie.Need-same-length
 same-length c = search needs
 
--- src/names.rt:69:9
 returns : tie.Need-returns
 returns c = let a = c .before .before .before .before .before .before .before .before .before .before .before .args in let u = row-head (a .i * 3) _ (a .ios .now) (c .before .before .before .before .before .before .before .word-of .ensures .0) in let v = row-word (a .i * 3) 1 _ (a .ios .now) (c .before .before .before .before .before .before .word-of2 .ensures .0) in io-new (a .strings .now) (a .n) (a .i) (a .ios .now) (a .seen .now) (c .before .before .before .before .before .before .before .before .before .before .before .pre .0) (c .before .before .before .before .before .before .before .before .before .before .before .pre .2) _ _ (name-part (a .strings .now) _ _ _ _ u v) (sym (c .before .before .before .is-new-name .ensures .0) ∙ c .if1 .taken) (c .before .before .before .is-new-name .ensures .1)
 
--- src/names.rt:71:28
 add-io-taken : tie.Need-add-io-taken
 add-io-taken c = search needs
 
--- src/names.rt:71:38
 sub-io-taken : tie.Need-sub-io-taken
 sub-io-taken c = search needs
 
--- src/names.rt:71:38
 part-io-taken-start : tie.Need-part-io-taken-start
 part-io-taken-start c = search needs
 
--- src/names.rt:71:38
 part-io-taken-end : tie.Need-part-io-taken-end
 part-io-taken-end c = let a = c .before .before .before .before .before .before .before .before .before .before .before .args in let u = row-head (a .i * 3) _ (a .ios .now) (c .before .before .before .before .before .before .before .word-of .ensures .0) in let v = row-word (a .i * 3) 1 _ (a .ios .now) (c .before .before .before .before .before .before .word-of2 .ensures .0) in omega (arith, u, v, c .before .before .before .before .before .before .before .before .before .before .before .pre .1 .each (a .i) (c .before .before .before .before .before .before .before .before .before .before .before .pre .0))
 
--- src/names.rt:71:5
 io-taken-requires : tie.Need-io-taken-requires
 io-taken-requires c κs = search needs
 
--- src/names.rt:61:1
 same-length-2 : tie.Need-same-length-2
 same-length-2 c = search needs
 
--- src/names.rt:61:1
 returns-2 : tie.Need-returns-2
 returns-2 c = let a = c .before .before .before .before .before .before .before .before .before .before .before .before .before .args in let u = row-head (a .i * 3) _ (a .ios .now) (c .before .before .before .before .before .before .before .before .before .word-of .ensures .0) in let v = row-word (a .i * 3) 1 _ (a .ios .now) (c .before .before .before .before .before .before .before .before .word-of2 .ensures .0) in io-seen (a .strings .now) (a .n) (a .i) (a .ios .now) (a .seen .now) (c .before .before .before .before .before .before .before .before .before .before .before .before .before .pre .0) (c .before .before .before .before .before .before .before .before .before .before .before .before .before .pre .2) _ _ _ (name-part (a .strings .now) _ _ _ _ u v) (c .io-taken .ensures) (c .before .before .before .before .before .is-new-name .ensures .1)
 

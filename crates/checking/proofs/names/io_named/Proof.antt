@@ -7,46 +7,35 @@ use Rattle.checking.proofs.names.io_named.Statement.{statement}
 use Rattle.checking.proofs.names.io_named.Tie as tie
 use Rattle.checking.proofs.names.io_named.Reads as reads
 use Rattle.checking.proofs.names.io_named.Lts as lts
-use Rattle.checking.proofs.names.same_bytes.Reads as same-bytes-reads
 use Rattle.pools.proofs.word_of.Reads as word-of-reads
 
--- src/names.rt:36:15
 mul-row : tie.Need-mul-row
 mul-row c = search needs
 
--- src/names.rt:37:9
 word-of-requires : tie.Need-word-of-requires
 word-of-requires c κs = search needs
 
--- src/names.rt:38:36
 add-word-of : tie.Need-add-word-of
 add-word-of c = search needs
 
--- src/names.rt:38:23
 word-of-requires-2 : tie.Need-word-of-requires-2
 word-of-requires-2 c κs = search needs
 
--- src/names.rt:38:15
 add-end : tie.Need-add-end
 add-end c = search needs
 
--- src/names.rt:39:16
 sub-same-bytes : tie.Need-sub-same-bytes
 sub-same-bytes c = search needs
 
--- src/names.rt:39:16
 part-same-bytes-start : tie.Need-part-same-bytes-start
 part-same-bytes-start c = search needs
 
--- src/names.rt:39:16
 part-same-bytes-end : tie.Need-part-same-bytes-end
 part-same-bytes-end c = let a = c .before .before .before .before .before .args in let u = row-head (a .i * 3) _ (a .ios .now) (c .before .word-of .ensures .0) in let v = row-word (a .i * 3) 1 _ (a .ios .now) (c .word-of2 .ensures .0) in omega (arith, u, v, c .before .before .before .before .before .pre .1)
 
--- src/names.rt:39:5
 same-bytes-requires : tie.Need-same-bytes-requires
 same-bytes-requires c κs = search needs
 
--- src/names.rt:32:1
 returns : tie.Need-returns
 returns c = let a = c .before .before .before .before .before .before .before .args in let u = row-head (a .i * 3) _ (a .ios .now) (c .before .before .before .word-of .ensures .0) in let v = row-word (a .i * 3) 1 _ (a .ios .now) (c .before .before .word-of2 .ensures .0) in rw (← name-part (a .strings .now) _ _ _ _ u v) (c .same-bytes .ensures)
 

@@ -18,31 +18,24 @@ Inv-loop ios strings from n name i₀ i = (i ≤ n) × (taken name (ioNamesIn st
 abbrev μ-loop : tie.MeasureT-loop
 μ-loop ios strings from n name i₀ i = n - i
 
--- src/names.rt:48:5
 loop-holds : tie.Need-loop-holds Inv-loop μ-loop
 loop-holds c = (c .before .before .before .pre .0, refl)
 
--- src/names.rt:49:12
 io-named-requires : tie.Need-io-named-requires Inv-loop μ-loop
 io-named-requires c κs = let p = c .before .loop in (omega (arith, c .before .before .before .before .before .pre .1 .long, c .loop-test .taken), c .before .before .before .before .before .pre .1 .each (p .i) (c .loop-test .taken))
 
--- src/names.rt:50:13
 returns : tie.Need-returns Inv-loop μ-loop
 returns c = let a = c .before .before .before .before .before .before .before .args in let p = c .before .before .before .loop in io-hit (a .strings .now) (a .n) (p .i) (a .ios .now) (c .before .before .loop-test .taken) (a .name .now) (sym (c .if1 .taken) ∙ c .before .io-named .ensures) ∙ p .inv .1
 
--- src/names.rt:52:9
 add-i : tie.Need-add-i Inv-loop μ-loop
 add-i c = search needs
 
--- src/names.rt:48:5
 loop-less : tie.Need-loop-less Inv-loop μ-loop
 loop-less c = search needs
 
--- src/names.rt:48:5
 loop-again : tie.Need-loop-again Inv-loop μ-loop
 loop-again c = let a = c .before .before .before .before .before .before .before .args in let p = c .before .before .before .loop in (omega arith, io-miss (a .strings .now) (a .n) (p .i) (a .ios .now) (c .before .before .loop-test .taken) (a .name .now) (sym (c .if1 .left) ∙ c .before .io-named .ensures) ∙ p .inv .1)
 
--- src/names.rt:43:1
 returns-2 : tie.Need-returns-2 Inv-loop μ-loop
 returns-2 c = let a = c .before .before .before .before .before .args in let p = c .before .loop in io-none (a .strings .now) (a .n) (p .i) (drop (p .i * 3) (a .ios .now)) (a .name .now) (c .loop-test .left) ∙ p .inv .1
 

@@ -21,39 +21,30 @@ Inv-loop ios strings n seen₀ i₀ seen i = (i ≤ n) × Marked 255 seen (ioNam
 abbrev μ-loop : tie.MeasureT-loop
 μ-loop ios strings n seen₀ i₀ seen i = i
 
--- src/names.rt:79:5
 loop-holds : tie.Need-loop-holds Inv-loop μ-loop
 loop-holds c = let a = c .before .before .before .args in let s = ios-start (a .strings .now) (a .n) (a .ios .now) (a .seen .now) (c .before .before .before .pre .1) in (omega arith, s .0, s .1)
 
--- src/names.rt:80:9
 sub-i : tie.Need-sub-i Inv-loop μ-loop
 sub-i c = search needs
 
--- src/names.rt:81:12
 io-again-requires : tie.Need-io-again-requires Inv-loop μ-loop
 io-again-requires c κs = let a = c .before .before .before .before .before .before .args in let p = c .before .before .loop in (omega (arith, p .inv .0), c .before .before .before .before .before .before .pre .0, ios-back (a .strings .now) (a .n) (a .ios .now) (p .seen) (p .i) (c .before .loop-test .taken) (p .inv .1))
 
--- src/names.rt:82:13
 same-length : tie.Need-same-length Inv-loop μ-loop
 same-length c = search needs
 
--- src/names.rt:82:13
 returns : tie.Need-returns Inv-loop μ-loop
 returns c = let a = c .before .before .before .before .before .before .before .before .before .before .args in let p = c .before .before .before .before .before .before .loop in ios-early (a .strings .now) (a .n) (a .ios .now) (p .i - 1) (omega (arith, p .inv .0)) (io-again (a .strings .now) (a .n) (p .i - 1) (a .ios .now) (omega (arith, p .inv .0)) (sym (c .if1 .taken) ∙ c .before .before .before .io-again .ensures .0))
 
--- src/names.rt:79:5
 loop-less : tie.Need-loop-less Inv-loop μ-loop
 loop-less c = search needs
 
--- src/names.rt:79:5
 loop-again : tie.Need-loop-again Inv-loop μ-loop
 loop-again c = let a = c .before .before .before .before .before .before .before .before .before .before .args in let p = c .before .before .before .before .before .before .loop in (omega (arith, p .inv .0), c .before .before .before .io-again .ensures .1, sym (io-once (a .strings .now) (a .n) (p .i - 1) (a .ios .now) (omega (arith, p .inv .0)) (sym (c .if1 .left) ∙ c .before .before .before .io-again .ensures .0)) ∙ ios-still (a .strings .now) (a .n) (a .ios .now) (p .seen) (p .i) (c .before .before .before .before .before .loop-test .taken) (p .inv .2))
 
--- src/names.rt:74:1
 same-length-2 : tie.Need-same-length-2 Inv-loop μ-loop
 same-length-2 c = search needs
 
--- src/names.rt:74:1
 returns-2 : tie.Need-returns-2 Inv-loop μ-loop
 returns-2 c = let a = c .before .before .before .before .before .args in let p = c .before .loop in ios-first (a .strings .now) (a .n) (a .ios .now) (p .i) (c .loop-test .left) (p .inv .2)
 
