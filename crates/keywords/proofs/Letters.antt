@@ -1,7 +1,7 @@
 -- How much of a text a word may take, and how a word is looked up in a list.
 -- Assumes nothing.
-use mathlib.Core.Path.{_≡_, sym, _∙_}
-use mathlib.Core.Bool.{true, false}
+use mathlib.Core.Path.{_≡_, refl, sym, _∙_}
+use mathlib.Core.Bool.{Bool, true, false}
 use mathlib.Core.List.{List, [], _∷_}
 use Prim.Native.Nat.{ℕ, _+_, _-_, _<_, _≤_}
 use Prim.Native.String.{String}
@@ -21,11 +21,15 @@ run-short s from size h =
     take-all (length s - from) (drop from s) (simp length-drop (omega arith)) ∙ sym (take-all size (drop from s) (simp length-drop (omega arith)))
 
 -- the first word of a list is the one, or it is looked for behind it
-module _ (ls : List ℕ) (w : String) (ws : List String) (n : ℕ) where
-  pub numbered-hit : same ls (bytes w) ≡ true → numbered (w ∷ ws) ls n ≡ n
+module _ (ls : List ℕ) (w : String) (ws : List String) (n : ℕ) {r : Bool} (e : r ≡ same ls (bytes w)) where
+  pub here : r ≡ true → n ≡ numbered (w ∷ ws) ls n
   unfolding numbered
-  numbered-hit e = rw (e, numbered)
+  here h = sym (rw (sym e ∙ h, numbered))
 
-  pub numbered-miss : same ls (bytes w) ≡ false → numbered (w ∷ ws) ls n ≡ numbered ws ls (n + 1)
+  pub behind : r ≡ false → numbered ws ls (n + 1) ≡ numbered (w ∷ ws) ls n
   unfolding numbered
-  numbered-miss e = rw (e, numbered)
+  behind h = sym (rw (sym e ∙ h, numbered))
+
+pub nowhere : (ls : List ℕ) (n : ℕ) → 0 ≡ numbered [] ls n
+unfolding numbered
+nowhere ls n = refl

@@ -1,9 +1,8 @@
 -- Each word that is not the one leaves the rest of the list.
-use Rattle.keywords.proofs.Letters.{numbered-hit, numbered-miss}
-use Rattle.brackets.specs.Words.{numbered}
+use Rattle.keywords.proofs.Letters.{here, behind}
 use Rattle.kinds.specs.Kinds.{kindAt}
 use Rattle.ground.specs.Text.{bytes}
-use mathlib.Core.Path.{sym, _∙_}
+use mathlib.Core.Path.{_∙_}
 use borrow.Author.Needs.{needs}
 use Rattle.keywords.proofs.keyword.Statement.{statement}
 use Rattle.keywords.proofs.keyword.Tie as tie
@@ -15,8 +14,8 @@ same-bytes-requires : tie.Need-same-bytes-requires
 same-bytes-requires c κs = search needs
 
 returns : tie.Need-returns
-unfolding kindAt bytes numbered
-returns c = rw (numbered-hit _ "input" _ _ (sym (c .before .same-bytes .ensures) ∙ c .if1 .taken))
+unfolding kindAt bytes
+returns c = here _ "input" _ _ (c .before .same-bytes .ensures) (c .if1 .taken)
 
 slice-aggregate-same-bytes-2 : tie.Need-slice-aggregate-same-bytes-2
 slice-aggregate-same-bytes-2 c = search needs
@@ -25,8 +24,8 @@ same-bytes-requires-2 : tie.Need-same-bytes-requires-2
 same-bytes-requires-2 c κs = search needs
 
 returns-2 : tie.Need-returns-2
-unfolding kindAt bytes numbered
-returns-2 c = rw (numbered-miss _ "input" _ _ (sym (c .before .before .before .before .same-bytes .ensures) ∙ c .before .before .before .if1 .left), numbered-hit _ "output" _ _ (sym (c .before .same-bytes2 .ensures) ∙ c .if2 .taken))
+unfolding kindAt bytes
+returns-2 c = here _ "output" _ _ (c .before .same-bytes2 .ensures) (c .if2 .taken) ∙ behind _ "input" _ _ (c .before .before .before .before .same-bytes .ensures) (c .before .before .before .if1 .left)
 
 slice-aggregate-same-bytes-3 : tie.Need-slice-aggregate-same-bytes-3
 slice-aggregate-same-bytes-3 c = search needs
@@ -35,8 +34,8 @@ same-bytes-requires-3 : tie.Need-same-bytes-requires-3
 same-bytes-requires-3 c κs = search needs
 
 returns-3 : tie.Need-returns-3
-unfolding kindAt bytes numbered
-returns-3 c = rw (numbered-miss _ "input" _ _ (sym (c .before .before .before .before .before .before .before .same-bytes .ensures) ∙ c .before .before .before .before .before .before .if1 .left), numbered-miss _ "output" _ _ (sym (c .before .before .before .before .same-bytes2 .ensures) ∙ c .before .before .before .if2 .left), numbered-hit _ "buf" _ _ (sym (c .before .same-bytes3 .ensures) ∙ c .if3 .taken))
+unfolding kindAt bytes
+returns-3 c = here _ "buf" _ _ (c .before .same-bytes3 .ensures) (c .if3 .taken) ∙ behind _ "output" _ _ (c .before .before .before .before .same-bytes2 .ensures) (c .before .before .before .if2 .left) ∙ behind _ "input" _ _ (c .before .before .before .before .before .before .before .same-bytes .ensures) (c .before .before .before .before .before .before .if1 .left)
 
 slice-aggregate-same-bytes-4 : tie.Need-slice-aggregate-same-bytes-4
 slice-aggregate-same-bytes-4 c = search needs
@@ -45,8 +44,8 @@ same-bytes-requires-4 : tie.Need-same-bytes-requires-4
 same-bytes-requires-4 c κs = search needs
 
 returns-4 : tie.Need-returns-4
-unfolding kindAt bytes numbered
-returns-4 c = rw (numbered-miss _ "input" _ _ (sym (c .before .before .before .before .before .before .before .before .before .before .same-bytes .ensures) ∙ c .before .before .before .before .before .before .before .before .before .if1 .left), numbered-miss _ "output" _ _ (sym (c .before .before .before .before .before .before .before .same-bytes2 .ensures) ∙ c .before .before .before .before .before .before .if2 .left), numbered-miss _ "buf" _ _ (sym (c .before .before .before .before .same-bytes3 .ensures) ∙ c .before .before .before .if3 .left), numbered-hit _ "not" _ _ (sym (c .before .same-bytes4 .ensures) ∙ c .if4 .taken))
+unfolding kindAt bytes
+returns-4 c = here _ "not" _ _ (c .before .same-bytes4 .ensures) (c .if4 .taken) ∙ behind _ "buf" _ _ (c .before .before .before .before .same-bytes3 .ensures) (c .before .before .before .if3 .left) ∙ behind _ "output" _ _ (c .before .before .before .before .before .before .before .same-bytes2 .ensures) (c .before .before .before .before .before .before .if2 .left) ∙ behind _ "input" _ _ (c .before .before .before .before .before .before .before .before .before .before .same-bytes .ensures) (c .before .before .before .before .before .before .before .before .before .if1 .left)
 
 slice-aggregate-same-bytes-5 : tie.Need-slice-aggregate-same-bytes-5
 slice-aggregate-same-bytes-5 c = search needs
@@ -55,8 +54,8 @@ same-bytes-requires-5 : tie.Need-same-bytes-requires-5
 same-bytes-requires-5 c κs = search needs
 
 returns-5 : tie.Need-returns-5
-unfolding kindAt bytes numbered
-returns-5 c = rw (numbered-miss _ "input" _ _ (sym (c .before .before .before .before .before .before .before .before .before .before .before .before .before .same-bytes .ensures) ∙ c .before .before .before .before .before .before .before .before .before .before .before .before .if1 .left), numbered-miss _ "output" _ _ (sym (c .before .before .before .before .before .before .before .before .before .before .same-bytes2 .ensures) ∙ c .before .before .before .before .before .before .before .before .before .if2 .left), numbered-miss _ "buf" _ _ (sym (c .before .before .before .before .before .before .before .same-bytes3 .ensures) ∙ c .before .before .before .before .before .before .if3 .left), numbered-miss _ "not" _ _ (sym (c .before .before .before .before .same-bytes4 .ensures) ∙ c .before .before .before .if4 .left), numbered-hit _ "and" _ _ (sym (c .before .same-bytes5 .ensures) ∙ c .if5 .taken))
+unfolding kindAt bytes
+returns-5 c = here _ "and" _ _ (c .before .same-bytes5 .ensures) (c .if5 .taken) ∙ behind _ "not" _ _ (c .before .before .before .before .same-bytes4 .ensures) (c .before .before .before .if4 .left) ∙ behind _ "buf" _ _ (c .before .before .before .before .before .before .before .same-bytes3 .ensures) (c .before .before .before .before .before .before .if3 .left) ∙ behind _ "output" _ _ (c .before .before .before .before .before .before .before .before .before .before .same-bytes2 .ensures) (c .before .before .before .before .before .before .before .before .before .if2 .left) ∙ behind _ "input" _ _ (c .before .before .before .before .before .before .before .before .before .before .before .before .before .same-bytes .ensures) (c .before .before .before .before .before .before .before .before .before .before .before .before .if1 .left)
 
 slice-aggregate-same-bytes-6 : tie.Need-slice-aggregate-same-bytes-6
 slice-aggregate-same-bytes-6 c = search needs
@@ -65,15 +64,15 @@ same-bytes-requires-6 : tie.Need-same-bytes-requires-6
 same-bytes-requires-6 c κs = search needs
 
 returns-6 : tie.Need-returns-6
-unfolding kindAt bytes numbered
-returns-6 c = rw (numbered-miss _ "input" _ _ (sym (c .before .before .before .before .before .before .before .before .before .before .before .before .before .before .before .before .same-bytes .ensures) ∙ c .before .before .before .before .before .before .before .before .before .before .before .before .before .before .before .if1 .left), numbered-miss _ "output" _ _ (sym (c .before .before .before .before .before .before .before .before .before .before .before .before .before .same-bytes2 .ensures) ∙ c .before .before .before .before .before .before .before .before .before .before .before .before .if2 .left), numbered-miss _ "buf" _ _ (sym (c .before .before .before .before .before .before .before .before .before .before .same-bytes3 .ensures) ∙ c .before .before .before .before .before .before .before .before .before .if3 .left), numbered-miss _ "not" _ _ (sym (c .before .before .before .before .before .before .before .same-bytes4 .ensures) ∙ c .before .before .before .before .before .before .if4 .left), numbered-miss _ "and" _ _ (sym (c .before .before .before .before .same-bytes5 .ensures) ∙ c .before .before .before .if5 .left), numbered-hit _ "or" _ _ (sym (c .before .same-bytes6 .ensures) ∙ c .if6 .taken))
+unfolding kindAt bytes
+returns-6 c = here _ "or" _ _ (c .before .same-bytes6 .ensures) (c .if6 .taken) ∙ behind _ "and" _ _ (c .before .before .before .before .same-bytes5 .ensures) (c .before .before .before .if5 .left) ∙ behind _ "not" _ _ (c .before .before .before .before .before .before .before .same-bytes4 .ensures) (c .before .before .before .before .before .before .if4 .left) ∙ behind _ "buf" _ _ (c .before .before .before .before .before .before .before .before .before .before .same-bytes3 .ensures) (c .before .before .before .before .before .before .before .before .before .if3 .left) ∙ behind _ "output" _ _ (c .before .before .before .before .before .before .before .before .before .before .before .before .before .same-bytes2 .ensures) (c .before .before .before .before .before .before .before .before .before .before .before .before .if2 .left) ∙ behind _ "input" _ _ (c .before .before .before .before .before .before .before .before .before .before .before .before .before .before .before .before .same-bytes .ensures) (c .before .before .before .before .before .before .before .before .before .before .before .before .before .before .before .if1 .left)
 
 late-keyword-requires : tie.Need-late-keyword-requires
 late-keyword-requires c κs = search needs
 
 returns-7 : tie.Need-returns-7
-unfolding kindAt bytes numbered
-returns-7 c = rw (numbered-miss _ "input" _ _ (sym (c .before .before .before .before .before .before .before .before .before .before .before .before .before .before .before .before .before .same-bytes .ensures) ∙ c .before .before .before .before .before .before .before .before .before .before .before .before .before .before .before .before .if1 .left), numbered-miss _ "output" _ _ (sym (c .before .before .before .before .before .before .before .before .before .before .before .before .before .before .same-bytes2 .ensures) ∙ c .before .before .before .before .before .before .before .before .before .before .before .before .before .if2 .left), numbered-miss _ "buf" _ _ (sym (c .before .before .before .before .before .before .before .before .before .before .before .same-bytes3 .ensures) ∙ c .before .before .before .before .before .before .before .before .before .before .if3 .left), numbered-miss _ "not" _ _ (sym (c .before .before .before .before .before .before .before .before .same-bytes4 .ensures) ∙ c .before .before .before .before .before .before .before .if4 .left), numbered-miss _ "and" _ _ (sym (c .before .before .before .before .before .same-bytes5 .ensures) ∙ c .before .before .before .before .if5 .left), numbered-miss _ "or" _ _ (sym (c .before .before .same-bytes6 .ensures) ∙ c .before .if6 .left)) (c .late-keyword .ensures)
+unfolding kindAt bytes
+returns-7 c = c .late-keyword .ensures ∙ behind _ "or" _ _ (c .before .before .same-bytes6 .ensures) (c .before .if6 .left) ∙ behind _ "and" _ _ (c .before .before .before .before .before .same-bytes5 .ensures) (c .before .before .before .before .if5 .left) ∙ behind _ "not" _ _ (c .before .before .before .before .before .before .before .before .same-bytes4 .ensures) (c .before .before .before .before .before .before .before .if4 .left) ∙ behind _ "buf" _ _ (c .before .before .before .before .before .before .before .before .before .before .before .same-bytes3 .ensures) (c .before .before .before .before .before .before .before .before .before .before .if3 .left) ∙ behind _ "output" _ _ (c .before .before .before .before .before .before .before .before .before .before .before .before .before .before .same-bytes2 .ensures) (c .before .before .before .before .before .before .before .before .before .before .before .before .before .if2 .left) ∙ behind _ "input" _ _ (c .before .before .before .before .before .before .before .before .before .before .before .before .before .before .before .before .before .same-bytes .ensures) (c .before .before .before .before .before .before .before .before .before .before .before .before .before .before .before .before .if1 .left)
 
 pub keyword-spec : {M : Type 1} → statement M
 keyword-spec =
