@@ -27,8 +27,12 @@ whole-there s k = bool-cases (leb (8 * k + 8) (length s))
     e ∙ sym (ne-eqb _ 8 p))
 
 -- the bytes of record k stand at 8 * k
-pub read-there : (s : List ℕ) (at : ℕ) → rec (getD s (at + 2) 0) (getD s (at + 4) 0 + 256 * getD s (at + 5) 0) (getD s (at + 6) 0 + 256 * getD s (at + 7) 0) ≡ recordIn (drop at s)
-read-there s at = simp getD-drop
+pub read-there : (s : List ℕ) (at : ℕ) {op first second : ℕ} → op ≡ getD s (at + 2) 0 → first ≡ getD s (at + 4) 0 + 256 * getD s (at + 5) 0 → second ≡ getD s (at + 6) 0 + 256 * getD s (at + 7) 0 → rec op first second ≡ recordIn (drop at s)
+read-there s at o f g = rw (o, f, g) (simp getD-drop)
+
+-- a field of two bytes, each read by itself
+pub read-field : {x low high a b : ℕ} → x ≡ low + 256 * high → low ≡ a → high ≡ b → x ≡ a + 256 * b
+read-field e l h = rw (← l, ← h) e
 
 -- past the end a record of zeros is read
 pub read-past : (s : List ℕ) (k : ℕ) → length s / 8 < k → rec 0 0 0 ≡ recordIn (drop (8 * k) s)

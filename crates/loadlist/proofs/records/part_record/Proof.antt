@@ -1,6 +1,6 @@
 use Prim.Native.Nat.{_*_}
 use borrow.Author.Needs.{needs}
-use Rattle.loadlist.proofs.Laws.{read-there, read-past}
+use Rattle.loadlist.proofs.Laws.{read-there, read-field, read-past}
 use Rattle.loadlist.proofs.records.part_record.Statement.{statement}
 use Rattle.loadlist.proofs.records.part_record.Tie as tie
 
@@ -47,7 +47,11 @@ field-requires-2 : tie.Need-field-requires-2
 field-requires-2 c κs = search needs
 
 returns-2 : tie.Need-returns-2
-returns-2 c = let s = c .before .before .before .before .before .before .before .before .before .args in cc (read-there (s .list .now) (8 * s .k))
+returns-2 c =
+    let p = c .before .before .before in
+    let q = p .before .before .before in
+    let s = q .before .before .before .args in
+    read-there (s .list .now) (8 * s .k) (q .byte-at .ensures) (read-field (p .field .ensures) (p .before .before .byte-at2 .ensures) (p .before .byte-at3 .ensures)) (read-field (c .field2 .ensures) (c .before .before .byte-at4 .ensures) (c .before .byte-at5 .ensures))
 
 pub part-record-spec : {M : Type 1} → statement M
 part-record-spec =
