@@ -6,6 +6,7 @@ ghost use mathlib.Core.List.{[], _∷_};
 ghost use lib.Seq.{sets};
 ghost use Rattle.ground.specs.Choice.{pick};
 ghost use Rattle.trit.specs.Wide.{clash, agree, eqBit, ultBit, sltBit};
+ghost use Rattle.cellvalues.specs.Picked.{compareBit};
 
 // 0 against 1.
 fn clashes(a: u8, b: u8) -> bool
@@ -33,7 +34,7 @@ fn told_at(told: u8, a: u8, b: u8) -> u8
 }
 
 // A clash is told at once, whatever X stands elsewhere.
-pub(crate) fn eq_bit(a: &[u8], b: &[u8]) -> u8
+fn eq_bit(a: &[u8], b: &[u8]) -> u8
     ensures { λ r. ⌜ r ≡ eqBit (now (a .entry)) (now (b .entry)) ⌝ }
 {
     let n = least(a.len(), b.len());
@@ -49,7 +50,7 @@ pub(crate) fn eq_bit(a: &[u8], b: &[u8]) -> u8
     told
 }
 
-pub(crate) fn ult_bit(a: &[u8], b: &[u8]) -> u8
+fn ult_bit(a: &[u8], b: &[u8]) -> u8
     ensures { λ r. ⌜ r ≡ ultBit (now (a .entry)) (now (b .entry)) ⌝ }
 {
     let n = least(a.len(), b.len());
@@ -63,7 +64,7 @@ pub(crate) fn ult_bit(a: &[u8], b: &[u8]) -> u8
 }
 
 // The top place has a and not b, for there 1 is the lesser.
-pub(crate) fn slt_bit(a: &[u8], b: &[u8]) -> u8
+fn slt_bit(a: &[u8], b: &[u8]) -> u8
     ensures { λ r. ⌜ r ≡ sltBit (now (a .entry)) (now (b .entry)) ⌝ }
 {
     if a.len() == 0 {
@@ -83,20 +84,20 @@ pub(crate) fn slt_bit(a: &[u8], b: &[u8]) -> u8
     trit::carry3(a[top], trit::not3(b[top]), below)
 }
 
-pub(crate) fn put_eq(a: &[u8], b: &[u8], out: &mut [u8])
-    ensures { λ _. ⌜ now (out .exit) ≡ sets (now (out .entry)) 0 (eqBit (now (a .entry)) (now (b .entry)) ∷ []) ⌝ }
+fn compare_bit(kind: u32, a: &[u8], b: &[u8]) -> u8
+    ensures { λ r. ⌜ r ≡ compareBit kind (now (a .entry)) (now (b .entry)) ⌝ }
 {
-    put_bit(eq_bit(a, b), out);
+    if kind == 10 {
+        return eq_bit(a, b);
+    }
+    if kind == 11 {
+        return ult_bit(a, b);
+    }
+    slt_bit(a, b)
 }
 
-pub(crate) fn put_ult(a: &[u8], b: &[u8], out: &mut [u8])
-    ensures { λ _. ⌜ now (out .exit) ≡ sets (now (out .entry)) 0 (ultBit (now (a .entry)) (now (b .entry)) ∷ []) ⌝ }
+pub(crate) fn put_compare(kind: u32, a: &[u8], b: &[u8], out: &mut [u8])
+    ensures { λ _. ⌜ now (out .exit) ≡ sets (now (out .entry)) 0 (compareBit kind (now (a .entry)) (now (b .entry)) ∷ []) ⌝ }
 {
-    put_bit(ult_bit(a, b), out);
-}
-
-pub(crate) fn put_slt(a: &[u8], b: &[u8], out: &mut [u8])
-    ensures { λ _. ⌜ now (out .exit) ≡ sets (now (out .entry)) 0 (sltBit (now (a .entry)) (now (b .entry)) ∷ []) ⌝ }
-{
-    put_bit(slt_bit(a, b), out);
+    put_bit(compare_bit(kind, a, b), out);
 }

@@ -2,8 +2,8 @@
 use words::least;
 ghost use mathlib.Core.Path.{_≡_};
 ghost use lib.Seq.{sets};
-ghost use Rattle.trit.specs.Trit.{andOf, orOf, xorOf};
 ghost use Rattle.trit.specs.Wide.{notBits, pairs};
+ghost use Rattle.cellvalues.specs.Picked.{gateOf};
 
 pub(crate) fn put_not(a: &[u8], out: &mut [u8])
     ensures { λ _. ⌜ now (out .exit) ≡ sets (now (out .entry)) 0 (notBits (now (a .entry))) ⌝ }
@@ -16,35 +16,25 @@ pub(crate) fn put_not(a: &[u8], out: &mut [u8])
     }
 }
 
-pub(crate) fn put_and(a: &[u8], b: &[u8], out: &mut [u8])
-    ensures { λ _. ⌜ now (out .exit) ≡ sets (now (out .entry)) 0 (pairs andOf (now (a .entry)) (now (b .entry))) ⌝ }
+fn gate_bit(kind: u32, a: u8, b: u8) -> u8
+    ensures { λ r. ⌜ r ≡ gateOf kind a b ⌝ }
 {
-    let n = least(least(a.len(), b.len()), out.len());
-    let mut i: usize = 0;
-    while i < n {
-        out[i] = trit::and3(a[i], b[i]);
-        i += 1;
+    if kind == 5 {
+        return trit::and3(a, b);
     }
+    if kind == 6 {
+        return trit::or3(a, b);
+    }
+    trit::xor3(a, b)
 }
 
-pub(crate) fn put_or(a: &[u8], b: &[u8], out: &mut [u8])
-    ensures { λ _. ⌜ now (out .exit) ≡ sets (now (out .entry)) 0 (pairs orOf (now (a .entry)) (now (b .entry))) ⌝ }
+pub(crate) fn put_gate(kind: u32, a: &[u8], b: &[u8], out: &mut [u8])
+    ensures { λ _. ⌜ now (out .exit) ≡ sets (now (out .entry)) 0 (pairs (gateOf kind) (now (a .entry)) (now (b .entry))) ⌝ }
 {
     let n = least(least(a.len(), b.len()), out.len());
     let mut i: usize = 0;
     while i < n {
-        out[i] = trit::or3(a[i], b[i]);
-        i += 1;
-    }
-}
-
-pub(crate) fn put_xor(a: &[u8], b: &[u8], out: &mut [u8])
-    ensures { λ _. ⌜ now (out .exit) ≡ sets (now (out .entry)) 0 (pairs xorOf (now (a .entry)) (now (b .entry))) ⌝ }
-{
-    let n = least(least(a.len(), b.len()), out.len());
-    let mut i: usize = 0;
-    while i < n {
-        out[i] = trit::xor3(a[i], b[i]);
+        out[i] = gate_bit(kind, a[i], b[i]);
         i += 1;
     }
 }
