@@ -4,13 +4,15 @@ use mathlib.Core.Logic.{_⊎_, inl, inr, ⊎-elim}
 use mathlib.Core.List.{List, [], _∷_}
 use Prim.Native.Nat.{ℕ, _+_, _-_, _<_, _≤_, min}
 use native.Mathlib.Omega.{arith}
-use lib.Dec.{leb}
+use lib.Dec.{leb, eqb}
 use lib.ListN.{length, drop, getD}
 use borrow.Author.Tests.{leb-true, leb-false}
 use Rattle.ground.proofs.Bools.{bool-cases}
 use Rattle.ground.proofs.Rest.{rest-cons, rest-end}
+use Rattle.kinds.specs.Kinds.{ultKind}
 use Rattle.loadlist.specs.Records.{rec, notOp, andOp, orOp, xorOp}
 use Rattle.cells.specs.Records.{Made, made, notMade, gateMade, muxFrom, muxMade, carryRecords, adcMade, eqFrom, eqMade, belowRecords, ultMade, sltMade}
+use Rattle.recording.specs.ByKind.{lowBits, lessMade}
 use Rattle.recording.proofs.Left.{Step}
 
 module _ (a : List ℕ) (i : ℕ) where
@@ -100,16 +102,16 @@ module _ (a b : List ℕ) (i : ℕ) where
     unfolding eqFrom
     eq-on sum = record { is = rw (rest-cons a i (omega arith), rest-cons b i (omega arith)) }
 
-    pub ult-on : (c : ℕ) → Step (ultMade k (drop i a) (drop i b) c) (belowRecords k x y c) [] (ultMade (k + 5) xs ys (k + 4))
+    ult-on : (c : ℕ) → Step (ultMade k (drop i a) (drop i b) c) (belowRecords k x y c) [] (ultMade (k + 5) xs ys (k + 4))
     unfolding ultMade
     ult-on c = record { is = rw (rest-cons a i (omega arith), rest-cons b i (omega arith)) }
 
     -- slt at its top place
-    pub slt-top : (c : ℕ) → length a ≡ i + 1 → Step (sltMade k (drop i a) (drop i b) c) (rec notOp y 0 ∷ carryRecords (k + 1) x k c) ((k + 4) ∷ []) (made [] [])
+    slt-top : (c : ℕ) → length a ≡ i + 1 → Step (sltMade k (drop i a) (drop i b) c) (rec notOp y 0 ∷ carryRecords (k + 1) x k c) ((k + 4) ∷ []) (made [] [])
     unfolding sltMade
     slt-top c e = record { is = rw (rest-cons a i (omega arith), rest-end a (i + 1) (omega arith), rest-cons b i (omega arith)) }
 
-  pub slt-on : (k : ℕ) → i < min (length a - 1) (length b) → (c : ℕ)
+  slt-on : (k : ℕ) → i < min (length a - 1) (length b) → (c : ℕ)
       → Step (sltMade k (drop i a) (drop i b) c) (belowRecords k x y c) [] (sltMade (k + 5) xs ys (k + 4))
   unfolding sltMade
   slt-on k h c = record { is = rw (rest-cons a i (omega arith), rest-cons a (i + 1) (omega arith), rest-cons b i (omega arith)) }
@@ -131,13 +133,31 @@ module _ (a b : List ℕ) (i : ℕ) where
     unfolding eqFrom
     eq-end sum = record { is = two-end (eqFrom sum k) (made (rec notOp sum 0 ∷ []) (k ∷ [])) (λ _. refl) (eq-second sum k) a b i h }
 
-    pub ult-end : (c : ℕ) → Step (ultMade k (drop i a) (drop i b) c) [] (c ∷ []) (made [] [])
+    ult-end : (c : ℕ) → Step (ultMade k (drop i a) (drop i b) c) [] (c ∷ []) (made [] [])
     unfolding ultMade
     ult-end c = record { is = two-end (λ p q. ultMade k p q c) (made [] (c ∷ [])) (λ _. refl) (ult-second k c) a b i h }
 
-    pub slt-end : (c : ℕ) → Step (sltMade k (drop i a) (drop i b) c) [] (c ∷ []) (made [] [])
+    slt-end : (c : ℕ) → Step (sltMade k (drop i a) (drop i b) c) [] (c ∷ []) (made [] [])
     unfolding sltMade
     slt-end c = record { is = two-end (λ p q. sltMade k p q c) (made [] (c ∷ [])) (λ _. refl) (slt-second k c) a b i h }
+
+-- ult or slt: below its top place, at it, and behind the last
+module _ (a b : List ℕ) (i kind k c : ℕ) where
+  pub less-on : i < lowBits kind a b → Step (lessMade kind k (drop i a) (drop i b) c) (belowRecords k (x a b i) (y a b i) c) [] (lessMade kind (k + 5) (xs a b i) (ys a b i) (k + 4))
+  unfolding lowBits lessMade
+  less-on h = bool-cases (eqb kind ultKind) (λ e. rw e (ult-on a b i k (rw e at h) c)) (λ e. rw e (slt-on a b i k (rw e at h) c))
+
+  pub less-top : lowBits kind a b ≤ i → i < min (length a) (length b)
+      → Step (lessMade kind k (drop i a) (drop i b) c) (rec notOp (y a b i) 0 ∷ carryRecords (k + 1) (x a b i) k c) ((k + 4) ∷ []) (made [] [])
+  unfolding lowBits lessMade
+  less-top l h =
+      bool-cases (eqb kind ultKind)
+      (λ e. let m : min (length a) (length b) ≤ i = rw e at l in absurd (omega arith))
+      (λ e. let m : min (length a - 1) (length b) ≤ i = rw e at l in rw e (slt-top a b i k h c (omega arith)))
+
+  pub less-end : min (length a) (length b) ≤ i → Step (lessMade kind k (drop i a) (drop i b) c) [] (c ∷ []) (made [] [])
+  unfolding lessMade
+  less-end h = bool-cases (eqb kind ultKind) (λ e. rw e (ult-end a b i k h c)) (λ e. rw e (slt-end a b i k h c))
 
 -- the first records of mux
 pub mux-first : (k s : ℕ) (a b : List ℕ) → Step (muxMade k s a b) (rec notOp s 0 ∷ rec xorOp s s ∷ []) [] (muxFrom s k (k + 1) (k + 2) a b)

@@ -4,10 +4,11 @@ use crate::records::put_carry;
 use crate::records::shared;
 ghost use mathlib.Core.Path.{_≡_};
 ghost use mathlib.Core.List.{[], _∷_};
-ghost use Prim.Native.Nat.{ℕ, _+_, _*_, _-_, _≤_, min};
+ghost use Prim.Native.Nat.{ℕ, _+_, _*_, _≤_, min};
 ghost use lib.ListN.{length, drop};
 ghost use Rattle.loadlist.specs.Records.{rec, notOp};
-ghost use Rattle.cells.specs.Records.{carryRecords, belowRecords, eqFrom, eqMade, ultMade, sltMade};
+ghost use Rattle.cells.specs.Records.{carryRecords, belowRecords, eqFrom, eqMade};
+ghost use Rattle.recording.specs.ByKind.{lowBits, lessMade};
 ghost use Rattle.recording.specs.Making.{Puts, recorded, recordedOf, Room};
 
 // The first carry of ult and slt is slot 0.
@@ -52,23 +53,6 @@ fn put_below(list: &mut [u8], k: usize, a: u16, b: u16, c: u16) -> u16
     put_carry(list, k + 1, other, b, c)
 }
 
-pub(crate) fn make_ult(k: usize, a: &[u16], b: &[u16], list: &mut [u8], outs: &mut [u16]) -> usize
-    requires { ⌜ Room (ultMade k (now a) (now b) 0) k (now list) (now outs) ⌝ }
-    ensures { λ r. ⌜ recorded r (now (list .exit)) (now (outs .exit)) ≡ recordedOf (ultMade k (now (a .entry)) (now (b .entry)) 0) k (now (list .entry)) (now (outs .entry)) ⌝ }
-{
-    let bits = shared(a, b);
-    let mut carry = FIRST_CARRY;
-    let mut next = k;
-    let mut i: usize = 0;
-    while i < bits {
-        carry = put_below(list, next, a[i], b[i], carry);
-        next += 5;
-        i += 1;
-    }
-    outs[0] = carry;
-    next - k
-}
-
 // slt at the top: the carry rule over a, not b and the carry c.
 fn put_top(list: &mut [u8], k: usize, a: u16, b: u16, c: u16) -> u16
     requires { ⌜ (k + 5 ≤ 8192) × (8 * (k + 5) ≤ length (now list)) ⌝ }
@@ -78,11 +62,14 @@ fn put_top(list: &mut [u8], k: usize, a: u16, b: u16, c: u16) -> u16
     put_carry(list, k + 1, a, other, c)
 }
 
-// The number of bits below the top place of a that b has too.
-fn low_bits(a: &[u16], b: &[u16]) -> usize
-    ensures { λ n. ⌜ n ≡ min (length (now (a .entry)) - 1) (length (now (b .entry))) ⌝ }
+// The number of bits that ult's rule goes over; of slt these are below the top place of a.
+fn low_bits(kind: u32, a: &[u16], b: &[u16]) -> usize
+    ensures { λ n. ⌜ (n ≡ lowBits kind (now (a .entry)) (now (b .entry))) × (n ≤ min (length (now (a .entry))) (length (now (b .entry)))) ⌝ }
 {
     let bits = shared(a, b);
+    if kind == 11 {
+        return bits;
+    }
     if bits < a.len() {
         return bits;
     }
@@ -92,11 +79,19 @@ fn low_bits(a: &[u16], b: &[u16]) -> usize
     0
 }
 
-pub(crate) fn make_slt(k: usize, a: &[u16], b: &[u16], list: &mut [u8], outs: &mut [u16]) -> usize
-    requires { ⌜ Room (sltMade k (now a) (now b) 0) k (now list) (now outs) ⌝ }
-    ensures { λ r. ⌜ recorded r (now (list .exit)) (now (outs .exit)) ≡ recordedOf (sltMade k (now (a .entry)) (now (b .entry)) 0) k (now (list .entry)) (now (outs .entry)) ⌝ }
+// ult, or slt: the same but for the top place.
+pub(crate) fn make_less(
+    kind: u32,
+    k: usize,
+    a: &[u16],
+    b: &[u16],
+    list: &mut [u8],
+    outs: &mut [u16],
+) -> usize
+    requires { ⌜ Room (lessMade kind k (now a) (now b) 0) k (now list) (now outs) ⌝ }
+    ensures { λ r. ⌜ recorded r (now (list .exit)) (now (outs .exit)) ≡ recordedOf (lessMade kind k (now (a .entry)) (now (b .entry)) 0) k (now (list .entry)) (now (outs .entry)) ⌝ }
 {
-    let low = low_bits(a, b);
+    let low = low_bits(kind, a, b);
     let mut carry = FIRST_CARRY;
     let mut next = k;
     let mut i: usize = 0;

@@ -10,15 +10,25 @@ mod records;
 use adc::make_adc;
 use buffer::make_buf;
 use compare::make_eq;
-use compare::make_slt;
-use compare::make_ult;
+use compare::make_less;
 use gates::make_gate;
 use gates::make_not;
 use mux::make_mux;
 use records::first_of;
 ghost use mathlib.Core.Path.{_≡_};
 ghost use Rattle.cells.specs.Records.{kindMade};
+ghost use Rattle.recording.specs.ByKind.{copied};
 ghost use Rattle.recording.specs.Making.{recorded, recordedOf, Room};
+
+// The kinds that have no record: those before not, and any number behind slt.
+fn is_copied(kind: u32) -> bool
+    ensures { λ r. ⌜ r ≡ copied kind ⌝ }
+{
+    if kind < 4 {
+        return true;
+    }
+    12 < kind
+}
 
 // The records of a cell of the kind, whose operands have the slots a, b, c, from record k on; the slots of its bits from the front of
 // outs on; and the number of its records. It asks for room for these, and that no slot passes 8,191.
@@ -34,7 +44,7 @@ pub fn make(
     requires { ⌜ Room (kindMade kind k (now a) (now b) (now c)) k (now list) (now outs) ⌝ }
     ensures { λ r. ⌜ recorded r (now (list .exit)) (now (outs .exit)) ≡ recordedOf (kindMade kind k (now (a .entry)) (now (b .entry)) (now (c .entry))) k (now (list .entry)) (now (outs .entry)) ⌝ }
 {
-    if kind < 4 {
+    if is_copied(kind) {
         return make_buf(k, a, list, outs);
     }
     if kind == 4 {
@@ -53,11 +63,5 @@ pub fn make(
     if kind == 10 {
         return make_eq(k, a, b, list, outs);
     }
-    if kind == 11 {
-        return make_ult(k, a, b, list, outs);
-    }
-    if kind == 12 {
-        return make_slt(k, a, b, list, outs);
-    }
-    make_buf(k, a, list, outs)
+    make_less(kind, k, a, b, list, outs)
 }

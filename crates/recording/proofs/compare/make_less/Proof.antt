@@ -2,18 +2,18 @@ use Prim.Native.Nat.{_-_}
 use native.Mathlib.Omega.{arith}
 use mathlib.Core.Path.{refl}
 use lib.ListN.{drop}
-use Rattle.cells.specs.Records.{sltMade}
-use Rattle.recording.proofs.Bits.{slt-on, slt-top, slt-end}
+use Rattle.recording.specs.ByKind.{lessMade}
+use Rattle.recording.proofs.Bits.{less-on, less-top, less-end}
 use Rattle.recording.proofs.Left.{Left, puts-nothing, left-whole, step-room, left-quiet, left-bit, left-none}
 use borrow.Author.Needs.{needs}
-use Rattle.recording.proofs.compare.make_slt.Statement.{statement}
-use Rattle.recording.proofs.compare.make_slt.Tie as tie
+use Rattle.recording.proofs.compare.make_less.Statement.{statement}
+use Rattle.recording.proofs.compare.make_less.Tie as tie
 
 abbrev Inv-loop : tie.InvT-loop
-Inv-loop k a b list₀ outs low carry₀ next₀ i₀ list carry next i = Left (sltMade k a b 0) k list₀ outs (sltMade next (drop i a) (drop i b) carry) next 0 list outs
+Inv-loop kind k a b list₀ outs low carry₀ next₀ i₀ list carry next i = Left (lessMade kind k a b 0) k list₀ outs (lessMade kind next (drop i a) (drop i b) carry) next 0 list outs
 
 abbrev μ-loop : tie.MeasureT-loop
-μ-loop k a b list₀ outs low carry₀ next₀ i₀ list carry next i = low - i
+μ-loop kind k a b list₀ outs low carry₀ next₀ i₀ list carry next i = low - i
 
 low-bits-requires : tie.Need-low-bits-requires Inv-loop μ-loop
 low-bits-requires c κs = search needs
@@ -37,14 +37,14 @@ put-below-requires : tie.Need-put-below-requires Inv-loop μ-loop
 put-below-requires c κs =
     let s = c .before .before .before .before .before .before .before .before .before .before in
     let l = c .before .before .before .before .loop in
-    let r = step-room (slt-on (s .args .a .now) (s .args .b .now) (l .i) (l .next) (omega arith) (l .carry)) (l .inv) in
+    let r = step-room (less-on (s .args .a .now) (s .args .b .now) (l .i) (s .args .kind) (l .next) (l .carry) (omega arith)) (l .inv) in
     (r .0, r .1)
 
 add-next : tie.Need-add-next Inv-loop μ-loop
 add-next c =
     let s = c .before .before .before .before .before .before .before .before .before .before .before .before .before in
     let l = c .before .before .before .before .before .before .before .loop in
-    let r = step-room (slt-on (s .args .a .now) (s .args .b .now) (l .i) (l .next) (omega arith) (l .carry)) (l .inv) in
+    let r = step-room (less-on (s .args .a .now) (s .args .b .now) (l .i) (s .args .kind) (l .next) (l .carry) (omega arith)) (l .inv) in
     omega (arith, r .0)
 
 add-i : tie.Need-add-i Inv-loop μ-loop
@@ -58,7 +58,7 @@ loop-again c =
     let s = c .before .before .before .before .before .before .before .before .before .before .before .before .before in
     let l = c .before .before .before .before .before .before .before .loop in
     let p = c .before .before .put-below .ensures in
-    rw (p .0) (left-quiet (slt-on (s .args .a .now) (s .args .b .now) (l .i) (l .next) (omega arith) (l .carry)) (l .inv) (p .1) refl)
+    rw (p .0) (left-quiet (less-on (s .args .a .now) (s .args .b .now) (l .i) (s .args .kind) (l .next) (l .carry) (omega arith)) (l .inv) (p .1) refl)
 
 shared-requires : tie.Need-shared-requires Inv-loop μ-loop
 shared-requires c κs = search needs
@@ -79,21 +79,21 @@ put-top-requires : tie.Need-put-top-requires Inv-loop μ-loop
 put-top-requires c κs =
     let s = c .before .before .before .before .before .before .before .before .before .before .before .before in
     let l = c .before .before .before .before .before .before .loop in
-    let r = step-room (slt-top (s .args .a .now) (s .args .b .now) (l .i) (l .next) (omega arith) (l .carry) (omega arith)) (l .inv) in
+    let r = step-room (less-top (s .args .a .now) (s .args .b .now) (l .i) (s .args .kind) (l .next) (l .carry) (omega arith) (omega arith)) (l .inv) in
     (r .0, r .1)
 
 slice-write-outs : tie.Need-slice-write-outs Inv-loop μ-loop
 slice-write-outs c =
     let s = c .before .before .before .before .before .before .before .before .before .before .before .before .before .before .before in
     let l = c .before .before .before .before .before .before .before .before .before .loop in
-    let r = step-room (slt-top (s .args .a .now) (s .args .b .now) (l .i) (l .next) (omega arith) (l .carry) (omega arith)) (l .inv) in
+    let r = step-room (less-top (s .args .a .now) (s .args .b .now) (l .i) (s .args .kind) (l .next) (l .carry) (omega arith) (omega arith)) (l .inv) in
     omega (arith, r .2)
 
 add-result : tie.Need-add-result Inv-loop μ-loop
 add-result c =
     let s = c .before .before .before .before .before .before .before .before .before .before .before .before .before .before .before in
     let l = c .before .before .before .before .before .before .before .before .before .loop in
-    let r = step-room (slt-top (s .args .a .now) (s .args .b .now) (l .i) (l .next) (omega arith) (l .carry) (omega arith)) (l .inv) in
+    let r = step-room (less-top (s .args .a .now) (s .args .b .now) (l .i) (s .args .kind) (l .next) (l .carry) (omega arith) (omega arith)) (l .inv) in
     omega (arith, r .0)
 
 sub-result : tie.Need-sub-result Inv-loop μ-loop
@@ -104,7 +104,7 @@ same-length c =
     let s = c .before .before .before .before .before .before .before .before .before .before .before .before .before .before .before in
     let l = c .before .before .before .before .before .before .before .before .before .loop in
     let p = c .before .before .put-top .ensures in
-    left-bit (slt-top (s .args .a .now) (s .args .b .now) (l .i) (l .next) (omega arith) (l .carry) (omega arith)) (l .inv) (p .1) refl (p .0) .long
+    left-bit (less-top (s .args .a .now) (s .args .b .now) (l .i) (s .args .kind) (l .next) (l .carry) (omega arith) (omega arith)) (l .inv) (p .1) refl (p .0) .long
 
 same-length-2 : tie.Need-same-length-2 Inv-loop μ-loop
 same-length-2 c = search needs
@@ -114,13 +114,13 @@ returns c =
     let s = c .before .before .before .before .before .before .before .before .before .before .before .before .before .before .before in
     let l = c .before .before .before .before .before .before .before .before .before .loop in
     let p = c .before .before .put-top .ensures in
-    left-none refl (left-bit (slt-top (s .args .a .now) (s .args .b .now) (l .i) (l .next) (omega arith) (l .carry) (omega arith)) (l .inv) (p .1) refl (p .0)) refl
+    left-none refl (left-bit (less-top (s .args .a .now) (s .args .b .now) (l .i) (s .args .kind) (l .next) (l .carry) (omega arith) (omega arith)) (l .inv) (p .1) refl (p .0)) refl
 
 slice-write-outs-2 : tie.Need-slice-write-outs-2 Inv-loop μ-loop
 slice-write-outs-2 c =
     let s = c .before .before .before .before .before .before .before .before .before in
     let l = c .before .before .before .loop in
-    let r = step-room (slt-end (s .args .a .now) (s .args .b .now) (l .i) (l .next) (omega arith) (l .carry)) (l .inv) in
+    let r = step-room (less-end (s .args .a .now) (s .args .b .now) (l .i) (s .args .kind) (l .next) (l .carry) (omega arith)) (l .inv) in
     omega (arith, r .2)
 
 sub-result-2 : tie.Need-sub-result-2 Inv-loop μ-loop
@@ -136,10 +136,10 @@ returns-2 : tie.Need-returns-2 Inv-loop μ-loop
 returns-2 c =
     let s = c .before .before .before .before .before .before .before .before .before in
     let l = c .before .before .before .loop in
-    left-none refl (left-bit (slt-end (s .args .a .now) (s .args .b .now) (l .i) (l .next) (omega arith) (l .carry)) (l .inv) (puts-nothing _ _) (omega arith) refl) refl
+    left-none refl (left-bit (less-end (s .args .a .now) (s .args .b .now) (l .i) (s .args .kind) (l .next) (l .carry) (omega arith)) (l .inv) (puts-nothing _ _) (omega arith) refl) refl
 
-pub make-slt-spec : {M : Type 1} → statement M
-make-slt-spec =
+pub make-less-spec : {M : Type 1} → statement M
+make-less-spec =
     tie.close
     (tie.spec
     Inv-loop
