@@ -2,10 +2,10 @@
 // widths of all cells are worked out once and lent down. Operands and writing stand below it, printing above.
 ghost use mathlib.Core.Path.{_≡_};
 ghost use mathlib.Core.Bool.{Bool, true};
-ghost use mathlib.Core.List.{List, []};
-ghost use Prim.Native.Nat.{ℕ, _<_, _≤_};
+ghost use mathlib.Core.List.{List, [], _++_};
+ghost use Prim.Native.Nat.{ℕ, _-_, _<_, _≤_};
 ghost use lib.Dec.{leb};
-ghost use lib.ListN.{length};
+ghost use lib.ListN.{length, take, drop};
 ghost use Rattle.ground.specs.Lists.{every};
 ghost use Rattle.ground.specs.Regions.{part};
 ghost use Rattle.kinds.specs.Kinds.{kindAt};
@@ -25,9 +25,12 @@ use words::wide;
 use writing::room::put;
 use writing::room::put_all;
 
+// Where the keyword of each kind begins among all keywords in order, and where the last one ends; none has the number 0.
+const STARTS: [usize; 14] = [0, 0, 5, 11, 14, 17, 20, 22, 25, 28, 31, 33, 36, 39];
+
 // A kind's number as a byte: 0, which no kind has, where it is none.
 fn kind_of(x: u32) -> u8
-    ensures { λ r. ⌜ kindAt r ≡ kindAt x ⌝ }
+    ensures { λ r. ⌜ (kindAt r ≡ kindAt x) × (r < 13) ⌝ }
 {
     if x < 13 {
         return x as u8;
@@ -41,66 +44,23 @@ fn at_least(k: u8, count: u8) -> bool
     k <= count
 }
 
-// The keyword of one of the first six kinds.
-fn put_first_words(room: &mut [u8], n: usize, kind: u8) -> usize
-    requires { ⌜ kind < 7 ⌝ }
-    ensures { λ r. ⌜ Wrote (now (room .entry)) n (text (kindAt kind .word)) (now (room .exit)) r ⌝ }
+// The bytes of words from start to end.
+fn put_part(room: &mut [u8], n: usize, words: &[u8], start: usize, end: usize) -> usize
+    requires { ⌜ (start ≤ end) × (end ≤ length (now words)) ⌝ }
+    ensures { λ r. ⌜ Wrote (now (room .entry)) n (λ k. take (end - start) (drop start (now (words .entry))) ++ k) (now (room .exit)) r ⌝ }
 {
-    if kind == 1 {
-        return put_all(room, n, b"input");
-    }
-    if kind == 2 {
-        return put_all(room, n, b"output");
-    }
-    if kind == 3 {
-        return put_all(room, n, b"buf");
-    }
-    if kind == 4 {
-        return put_all(room, n, b"not");
-    }
-    if kind == 5 {
-        return put_all(room, n, b"and");
-    }
-    if kind == 6 {
-        return put_all(room, n, b"or");
-    }
-    n
-}
-
-// The keyword of one of the last six kinds.
-fn put_last_words(room: &mut [u8], n: usize, kind: u8) -> usize
-    requires { ⌜ 7 ≤ kind ⌝ }
-    ensures { λ r. ⌜ Wrote (now (room .entry)) n (text (kindAt kind .word)) (now (room .exit)) r ⌝ }
-{
-    if kind == 7 {
-        return put_all(room, n, b"xor");
-    }
-    if kind == 8 {
-        return put_all(room, n, b"mux");
-    }
-    if kind == 9 {
-        return put_all(room, n, b"adc");
-    }
-    if kind == 10 {
-        return put_all(room, n, b"eq");
-    }
-    if kind == 11 {
-        return put_all(room, n, b"ult");
-    }
-    if kind == 12 {
-        return put_all(room, n, b"slt");
-    }
-    n
+    put_all(room, n, &words[start..end])
 }
 
 // A kind's keyword.
 fn put_keyword(room: &mut [u8], n: usize, kind: u8) -> usize
+    requires { ⌜ kind < 13 ⌝ }
     ensures { λ r. ⌜ Wrote (now (room .entry)) n (text (kindAt kind .word)) (now (room .exit)) r ⌝ }
 {
-    if kind < 7 {
-        return put_first_words(room, n, kind);
-    }
-    put_last_words(room, n, kind)
+    let words = b"inputoutputbufnotandorxormuxadcequltslt";
+    let starts = STARTS;
+    let k = kind as usize;
+    put_part(room, n, words, starts[k], starts[k + 1])
 }
 
 fn put_name(room: &mut [u8], n: usize, given: bool, strings: &[u8], from: u32, size: u32) -> usize
@@ -204,6 +164,7 @@ fn put_operands(
 
 // A cell's number, width and keyword.
 fn put_declared(room: &mut [u8], n: usize, number: u32, width: u32, kind: u8) -> usize
+    requires { ⌜ kind < 13 ⌝ }
     ensures { λ r. ⌜ Wrote (now (room .entry)) n (declared number width (kindAt kind .word)) (now (room .exit)) r ⌝ }
 {
     let m = put(room, n, 37);

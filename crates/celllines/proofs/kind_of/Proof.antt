@@ -14,7 +14,7 @@ returns c = search needs
 
 returns-2 : tie.Need-returns-2
 unfolding kindAt
-returns-2 c = sym (no-kind (c .before .args .x) (omega (arith, c .if1 .left)))
+returns-2 c = (sym (no-kind (c .before .args .x) (omega (arith, c .if1 .left))), omega arith)
 
 pub kind-of-spec : {M : Type 1} → statement M
 kind-of-spec = tie.close (tie.spec cast-result returns returns-2)

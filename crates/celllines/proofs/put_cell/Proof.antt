@@ -52,7 +52,7 @@ same-length c = search needs
 returns : tie.Need-returns
 unfolding cellLine
 returns c = same-text (then (c .before .before .before .before .before .before .before .before .before .before .before .before .before .before .before .before .before .before .before .before .before .before .before .before .put-declared .ensures) (then (c .before .before .before .before .before .before .before .before .before .before .before .before .before .before .before .before .before .put-name .ensures) (then (c .before .before .before .before .before .before .before .before .before .before .before .before .put-operands .ensures) (then (c .before .before .before .before .before .before .put-option .ensures) (c .before .before .put .ensures)))))
-    (λ k. rw (c .before .before .before .before .before .before .before .before .before .before .before .before .before .before .before .before .before .before .before .before .has-name .ensures, c .before .before .before .before .before .before .before .before .before .before .before .before .before .operands-of .ensures, c .before .before .before .before .before .before .before .before .before .before .before .before .before .before .before .before .before .before .before .before .before .before .before .before .before .before .before .kind-of .ensures))
+    (λ k. rw (c .before .before .before .before .before .before .before .before .before .before .before .before .before .before .before .before .before .before .before .before .has-name .ensures, c .before .before .before .before .before .before .before .before .before .before .before .before .before .operands-of .ensures, c .before .before .before .before .before .before .before .before .before .before .before .before .before .before .before .before .before .before .before .before .before .before .before .before .before .before .before .kind-of .ensures .0))
 
 pub put-cell-spec : {M : Type 1} → statement M
 put-cell-spec =
