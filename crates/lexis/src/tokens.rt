@@ -4,8 +4,10 @@ use crate::Step;
 use crate::Token;
 use ground::Place;
 use ground::Refusal;
+use numerals::count_at;
 use numerals::numeral_at;
-use numerals::suffix_at;
+use numerals::offset_at;
+use numerals::width_at;
 use signs::classes::class_at;
 use signs::classes::classes;
 use signs::pieces::Numeral;
@@ -187,7 +189,7 @@ fn constant(t: &[u8; 256], text: &[u8], k: usize) -> Step
     ensures { λ r. ⌜ r ≡ constantOf (now (text .entry)) k ⌝ }
 {
     let e = span(t, text, k, 5, 6);
-    let c = suffix_at(text, 42, e);
+    let c = count_at(text, e);
     constant_from(k, e, c)
 }
 
@@ -264,9 +266,9 @@ fn cell_any(text: &[u8], k: usize) -> Step
     if opens_placeholder(text, end) {
         return one_numeral(10, k, from, i, i.value, end + 2);
     }
-    let o = suffix_at(text, 43, end);
-    let w = suffix_at(text, 58, o.end);
-    let c = suffix_at(text, 42, w.end);
+    let o = offset_at(text, end);
+    let w = width_at(text, o.end);
+    let c = count_at(text, w.end);
     cell_from(k, from, i, o, w, c)
 }
 
@@ -309,11 +311,11 @@ fn cell(text: &[u8], k: usize) -> Step
     let i = numeral_at(text, from, 65535);
     let end = i.end;
     if good_index(text, from, i) {
-        let o = suffix_at(text, 43, end);
+        let o = offset_at(text, end);
         if good_part(o) {
-            let w = suffix_at(text, 58, o.end);
+            let w = width_at(text, o.end);
             if good_part(w) {
-                let c = suffix_at(text, 42, w.end);
+                let c = count_at(text, w.end);
                 if good_part(c) {
                     return cell_took(k, i, o, w, c);
                 }
@@ -371,8 +373,8 @@ fn named(t: &[u8; 256], text: &[u8], k: usize) -> Step
     let from = k + 2;
     match quoted_at(t, text, from) {
         Quoted::Closed { size, end } => {
-            let o = suffix_at(text, 43, end);
-            let w = suffix_at(text, 58, end);
+            let o = offset_at(text, end);
+            let w = width_at(text, end);
             io_from(k, from, size, o, w)
         }
         Quoted::Malformed => refused(5, k),
@@ -413,7 +415,7 @@ fn io(t: &[u8; 256], text: &[u8], k: usize) -> Step
 {
     let b = byte_at(text, k + 1);
     if b == 95 {
-        let w = suffix_at(text, 58, k + 2);
+        let w = width_at(text, k + 2);
         return floating(k, w);
     }
     if b == 34 {

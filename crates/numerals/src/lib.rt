@@ -65,7 +65,7 @@ pub fn numeral_at(text: &[u8], at: usize, limit: u32) -> Numeral
 }
 
 // The part that begins with the mark at a place.
-pub fn suffix_at(text: &[u8], mark: u8, at: usize) -> Suffix
+fn suffix_at(text: &[u8], mark: u8, at: usize) -> Suffix
     requires { ⌜ 0 < mark ⌝ }
     ensures { λ r. ⌜ r ≡ suffixAt (now (text .entry)) mark at ⌝ }
 {
@@ -89,4 +89,25 @@ pub fn suffix_at(text: &[u8], mark: u8, at: usize) -> Suffix
         value: 0,
         end: at,
     }
+}
+
+// The part `+` at a place.
+pub fn offset_at(text: &[u8], at: usize) -> Suffix
+    ensures { λ r. ⌜ r ≡ suffixAt (now (text .entry)) 43 at ⌝ }
+{
+    suffix_at(text, 43, at)
+}
+
+// The part `:`.
+pub fn width_at(text: &[u8], at: usize) -> Suffix
+    ensures { λ r. ⌜ r ≡ suffixAt (now (text .entry)) 58 at ⌝ }
+{
+    suffix_at(text, 58, at)
+}
+
+// The part `*`.
+pub fn count_at(text: &[u8], at: usize) -> Suffix
+    ensures { λ r. ⌜ r ≡ suffixAt (now (text .entry)) 42 at ⌝ }
+{
+    suffix_at(text, 42, at)
 }

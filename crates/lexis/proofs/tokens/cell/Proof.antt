@@ -15,20 +15,20 @@ numeral-at-requires c κs = search needs
 good-index-requires : tie.Need-good-index-requires
 good-index-requires c κs = search needs
 
-suffix-at-requires : tie.Need-suffix-at-requires
-suffix-at-requires c κs = search needs
+offset-at-requires : tie.Need-offset-at-requires
+offset-at-requires c κs = search needs
 
 good-part-requires : tie.Need-good-part-requires
 good-part-requires c κs = search needs
 
-suffix-at-requires-2 : tie.Need-suffix-at-requires-2
-suffix-at-requires-2 c κs = search needs
+width-at-requires : tie.Need-width-at-requires
+width-at-requires c κs = search needs
 
 good-part-requires-2 : tie.Need-good-part-requires-2
 good-part-requires-2 c κs = search needs
 
-suffix-at-requires-3 : tie.Need-suffix-at-requires-3
-suffix-at-requires-3 c κs = search needs
+count-at-requires : tie.Need-count-at-requires
+count-at-requires c κs = search needs
 
 good-part-requires-3 : tie.Need-good-part-requires-3
 good-part-requires-3 c κs = search needs
@@ -43,9 +43,9 @@ returns c = let third = c .before .before .before in
     let first = second .before .before .before in
     let index = first .before .before .before in
     let a = index .before .before .args in
-    rw (← index .numeral-at .ensures, ← first .suffix-at .ensures, ← second .suffix-at2 .ensures, ← third .suffix-at3 .ensures)
+    rw (← index .numeral-at .ensures, ← first .offset-at .ensures, ← second .width-at .ensures, ← third .count-at .ensures)
     (c .cell-took .ensures
-    ∙ good-cell (a .text .now) (a .k) (index .numeral-at .result) (first .suffix-at .result) (second .suffix-at2 .result) (third .suffix-at3 .result)
+    ∙ good-cell (a .text .now) (a .k) (index .numeral-at .result) (first .offset-at .result) (second .width-at .result) (third .count-at .result)
     (sym (first .before .before .good-index .ensures) ∙ first .before .if1 .taken)
     (sym (second .before .before .good-part .ensures) ∙ second .before .if2 .taken)
     (sym (third .before .before .good-part2 .ensures) ∙ third .before .if3 .taken)
@@ -64,11 +64,11 @@ cell-spec =
     add-from
     numeral-at-requires
     good-index-requires
-    suffix-at-requires
+    offset-at-requires
     good-part-requires
-    suffix-at-requires-2
+    width-at-requires
     good-part-requires-2
-    suffix-at-requires-3
+    count-at-requires
     good-part-requires-3
     cell-took-requires
     returns

@@ -24,14 +24,14 @@ returns : tie.Need-returns
 unfolding cellOf
 returns c = rw (← c .before .before .before .numeral-at .ensures, ← c .before .before .opens-placeholder .ensures .0, c .before .if1 .taken) (c .one-numeral .ensures)
 
-suffix-at-requires : tie.Need-suffix-at-requires
-suffix-at-requires c κs = search needs
+offset-at-requires : tie.Need-offset-at-requires
+offset-at-requires c κs = search needs
 
-suffix-at-requires-2 : tie.Need-suffix-at-requires-2
-suffix-at-requires-2 c κs = search needs
+width-at-requires : tie.Need-width-at-requires
+width-at-requires c κs = search needs
 
-suffix-at-requires-3 : tie.Need-suffix-at-requires-3
-suffix-at-requires-3 c κs = search needs
+count-at-requires : tie.Need-count-at-requires
+count-at-requires c κs = search needs
 
 cell-from-requires : tie.Need-cell-from-requires
 cell-from-requires c κs = search needs
@@ -39,7 +39,7 @@ cell-from-requires c κs = search needs
 returns-2 : tie.Need-returns-2
 unfolding cellOf
 returns-2 c = let o = c .before .before .before in
-    rw (← o .before .before .before .numeral-at .ensures, ← o .before .before .opens-placeholder .ensures .0, o .before .if1 .left, ← o .suffix-at .ensures, ← c .before .before .suffix-at2 .ensures, ← c .before .suffix-at3 .ensures) (c .cell-from .ensures)
+    rw (← o .before .before .before .numeral-at .ensures, ← o .before .before .opens-placeholder .ensures .0, o .before .if1 .left, ← o .offset-at .ensures, ← c .before .before .width-at .ensures, ← c .before .count-at .ensures) (c .cell-from .ensures)
 
 pub cell-any-spec : {M : Type 1} → statement M
 cell-any-spec =
@@ -51,8 +51,8 @@ cell-any-spec =
     add-one-numeral
     one-numeral-requires
     returns
-    suffix-at-requires
-    suffix-at-requires-2
-    suffix-at-requires-3
+    offset-at-requires
+    width-at-requires
+    count-at-requires
     cell-from-requires
     returns-2)

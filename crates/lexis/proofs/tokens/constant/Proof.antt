@@ -7,16 +7,16 @@ use Rattle.lexis.proofs.tokens.constant.Tie as tie
 span-requires : tie.Need-span-requires
 span-requires c κs = search needs
 
-suffix-at-requires : tie.Need-suffix-at-requires
-suffix-at-requires c κs = search needs
+count-at-requires : tie.Need-count-at-requires
+count-at-requires c κs = search needs
 
 constant-from-requires : tie.Need-constant-from-requires
 constant-from-requires c κs = search needs
 
 returns : tie.Need-returns
 unfolding constantOf
-returns c = rw (← c .before .before .span .ensures .0, ← c .before .suffix-at .ensures) (c .constant-from .ensures)
+returns c = rw (← c .before .before .span .ensures .0, ← c .before .count-at .ensures) (c .constant-from .ensures)
 
 pub constant-spec : {M : Type 1} → statement M
 constant-spec =
-    tie.close (tie.spec span-requires suffix-at-requires constant-from-requires returns)
+    tie.close (tie.spec span-requires count-at-requires constant-from-requires returns)

@@ -11,18 +11,18 @@ add-byte-at c = search needs
 byte-at-requires : tie.Need-byte-at-requires
 byte-at-requires c κs = search needs
 
-add-suffix-at : tie.Need-add-suffix-at
-add-suffix-at c = search needs
+add-width-at : tie.Need-add-width-at
+add-width-at c = search needs
 
-suffix-at-requires : tie.Need-suffix-at-requires
-suffix-at-requires c κs = search needs
+width-at-requires : tie.Need-width-at-requires
+width-at-requires c κs = search needs
 
 floating-requires : tie.Need-floating-requires
 floating-requires c κs = search needs
 
 returns : tie.Need-returns
 unfolding ioOf
-returns c = rw (← c .before .before .before .byte-at .ensures, eq-eqb _ _ (c .before .before .if1 .taken), ← c .before .suffix-at .ensures) (c .floating .ensures)
+returns c = rw (← c .before .before .before .byte-at .ensures, eq-eqb _ _ (c .before .before .if1 .taken), ← c .before .width-at .ensures) (c .floating .ensures)
 
 named-requires : tie.Need-named-requires
 named-requires c κs = search needs
@@ -44,8 +44,8 @@ io-spec =
     (tie.spec
     add-byte-at
     byte-at-requires
-    add-suffix-at
-    suffix-at-requires
+    add-width-at
+    width-at-requires
     floating-requires
     returns
     named-requires

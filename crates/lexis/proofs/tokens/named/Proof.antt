@@ -12,11 +12,11 @@ quoted-at-requires c κs = search needs
 enum-known-size : tie.Need-enum-known-size
 enum-known-size c = search needs
 
-suffix-at-requires : tie.Need-suffix-at-requires
-suffix-at-requires c κs = search needs
+offset-at-requires : tie.Need-offset-at-requires
+offset-at-requires c κs = search needs
 
-suffix-at-requires-2 : tie.Need-suffix-at-requires-2
-suffix-at-requires-2 c κs = search needs
+width-at-requires : tie.Need-width-at-requires
+width-at-requires c κs = search needs
 
 io-from-requires : tie.Need-io-from-requires
 io-from-requires c κs = search needs
@@ -29,7 +29,7 @@ refused-requires c κs = search needs
 
 returns : tie.Need-returns
 returns c = let q = c .before .before .before .before in
-    rw (← q .before .before .quoted-at .ensures, q .size .given .1, ← c .before .before .suffix-at .ensures, ← c .before .suffix-at2 .ensures) (c .io-from .ensures)
+    rw (← q .before .before .quoted-at .ensures, q .size .given .1, ← c .before .before .offset-at .ensures, ← c .before .width-at .ensures) (c .io-from .ensures)
 
 returns-2 : tie.Need-returns-2
 returns-2 c = rw (← c .before .before .before .quoted-at .ensures, c .before .enum-told .given .1) (c .refused .ensures)
@@ -41,8 +41,8 @@ named-spec =
     add-from
     quoted-at-requires
     enum-known-size
-    suffix-at-requires
-    suffix-at-requires-2
+    offset-at-requires
+    width-at-requires
     io-from-requires
     enum-told
     refused-requires
