@@ -1,11 +1,8 @@
-use Rattle.noting.proofs.IoNotes.{io-asks, io-passed, io-room, io-after, io-refused}
+use Rattle.ionotes.proofs.Added.{io-region, io-added}
+use Rattle.noting.proofs.IoNotes.{io-asks, io-passed, io-room, io-refused}
 use Rattle.noting.specs.Rulings.{ioIn}
-use Rattle.ground.proofs.Regions.{part-length}
 use Rattle.ground.specs.Regions.{part}
-use Prim.Native.Nat.{_+_, _≤_}
-use lib.ListN.{length, take, drop}
-use native.Mathlib.Omega.{arith}
-use mathlib.Core.Path.{_≡_, sym, ap, _∙_}
+use mathlib.Core.Path.{sym, _∙_}
 use borrow.Author.Needs.{needs}
 use Rattle.ionotes.proofs.note_io.Statement.{statement}
 use Rattle.ionotes.proofs.note_io.Tie as tie
@@ -40,7 +37,7 @@ part-add-io-end c = search needs
 
 add-io-requires : tie.Need-add-io-requires
 unfolding part
-add-io-requires c κs = let s = c .before .before .before .before .before .before .before .before in let a = s .args in let p = s .pre .1 in let N = p .so .netlist in let i = ioIn (a .text .now) (a .name) (a .width) in let long = p .noted .longRows in let r : 9219 + 192 ≤ length (a .rows .now) = omega arith in (part-length 9219 192 (a .rows .now) r, io-room (a .text .now) N (a .name) (a .width) (a .n) (s .pre .0) (s .pre .2) (io-passed N i (a .place) (a .n) (p .noted .tally) (sym (c .before .before .before .io-ruled .ensures N (p .noted .ios) (p .noted .tally)) ∙ c .before .enum-told .given .1)))
+add-io-requires c κs = let s = c .before .before .before .before .before .before .before .before in let a = s .args in let p = s .pre .1 in let N = p .so .netlist in let i = ioIn (a .text .now) (a .name) (a .width) in (io-region (a .rows .now) (p .noted .longRows), io-room (a .text .now) N (a .name) (a .width) (a .n) (s .pre .0) (s .pre .2) (io-passed N i (a .place) (a .n) (p .noted .tally) (sym (c .before .before .before .io-ruled .ensures N (p .noted .ios) (p .noted .tally)) ∙ c .before .enum-told .given .1)))
 
 same-length : tie.Need-same-length
 same-length c = search needs
@@ -54,7 +51,12 @@ same-length-2 c = search needs
 
 returns-2 : tie.Need-returns-2
 unfolding part
-returns-2 c = let s = c .before .before .before .before .before .before .before .before .before .before .before in let a = s .args in let m = c .before .before .add-io .ensures in λ bits work so index d. rw (m .0, m .1) (io-after (a .text .now) so (a .n) (a .rows .now) bits work (a .place) index (a .name) (a .width) d (s .pre .2) (sym (c .before .before .before .before .before .before .io-ruled .ensures (so .netlist) (d .ios) (d .tally)) ∙ c .before .before .before .before .enum-told .given .1))
+returns-2 c =
+    let m = c .before .before .add-io .ensures in
+    let p = c .before .before .before .before in
+    let q = p .before .before in
+    let s = q .before .before .before .before .before in
+    let a = s .args in λ bits work so index d. io-added (a .text .now) so (a .n) (a .rows .now) bits work (a .place) index (a .name) (a .width) d (s .pre .2) (sym (q .io-ruled .ensures (so .netlist) (d .ios) (d .tally)) ∙ p .enum-told .given .1) _ _ (m .0) (m .1)
 
 pub note-io-spec : {M : Type 1} → statement M
 note-io-spec =
