@@ -82,7 +82,10 @@ pub output-bits : (held : ℕ → List ℕ) (pool : List Run) (cells : List ℕ)
     → bitsFrom held (part from size pool) ≡ outputFrom held (cellOf pool (drop (row * 9) cells))
 output-bits held pool cells row from size k p q = rw (p, q) (sym (an-output cells pool held row (row-word cells row ∙ k) ∙ ap (bitsFrom held) (first-is pool cells row)))
 
--- the same slots and records, told in another way
+-- the same slots, room and records, told in another way
+pub room-as : {m m′ : Made} {s s′ n : ℕ} → m ≡ m′ → s ≡ s′ → n ≡ 4096 → s′ + length (m′ .outs) ≤ 4096 → s + length (m .outs) ≤ n
+room-as e p q h = rw (e, p, q) h
+
 pub slots-as : (old : List ℕ) {new : List ℕ} {s s′ : ℕ} {m m′ : Made} → new ≡ sets old s (m .outs) → m ≡ m′ → s ≡ s′ → new ≡ sets old s′ (m′ .outs)
 slots-as old {new} {s} {s′} {m} {m′} e d h = e ∙ ap₂ (λ (i : ℕ) (x : Made). sets old i (x .outs)) h d
 

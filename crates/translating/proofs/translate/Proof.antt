@@ -7,25 +7,25 @@ use Rattle.translating.proofs.translate.Statement.{statement}
 use Rattle.translating.proofs.translate.Tie as tie
 
 refused-requires : tie.Need-refused-requires
-refused-requires c κs = search needs
+refused-requires c κs = tt
 
 returns : tie.Need-returns
 returns c = let a = c .before .before .before .before .before .before .before .args in rw (c .refused .ensures) (too-short (a .rows .now) (a .strings .now) (a .bits .now) (a .room .now) (a .work .now) (or-short _ (rows-short (a .rows .now) (a .strings .now) (a .bits .now) (c .before .if1 .taken))))
 
 refused-requires-2 : tie.Need-refused-requires-2
-refused-requires-2 c κs = search needs
+refused-requires-2 c κs = tt
 
 returns-2 : tie.Need-returns-2
 returns-2 c = let a = c .before .before .before .before .before .before .before .before .args in rw (c .refused2 .ensures) (too-short (a .rows .now) (a .strings .now) (a .bits .now) (a .room .now) (a .work .now) (or-short _ (strings-short (a .rows .now) (a .strings .now) (a .bits .now) (omega (arith, c .before .before .if1 .left)) (c .before .if2 .taken))))
 
 refused-requires-3 : tie.Need-refused-requires-3
-refused-requires-3 c κs = search needs
+refused-requires-3 c κs = tt
 
 returns-3 : tie.Need-returns-3
 returns-3 c = let a = c .before .before .before .before .before .before .before .before .before .args in rw (c .refused3 .ensures) (too-short (a .rows .now) (a .strings .now) (a .bits .now) (a .room .now) (a .work .now) (or-short _ (bits-short (a .rows .now) (a .strings .now) (a .bits .now) (omega (arith, c .before .before .before .if1 .left)) (omega (arith, c .before .before .if2 .left)) (c .before .if3 .taken))))
 
 refused-requires-4 : tie.Need-refused-requires-4
-refused-requires-4 c κs = search needs
+refused-requires-4 c κs = tt
 
 returns-4 : tie.Need-returns-4
 returns-4 c = let a = c .before .before .before .before .before .before .before .before .before .before .args in rw (c .refused4 .ensures) (too-short (a .rows .now) (a .strings .now) (a .bits .now) (a .room .now) (a .work .now) (work-short (short (a .rows .now) (a .strings .now) (a .bits .now)) (a .work .now) (c .before .if4 .taken)))

@@ -10,13 +10,13 @@ word-of-requires : tie.Need-word-of-requires
 word-of-requires c κs = let a = c .before .before .before .before .before .args in omega (arith, checked-good (a .rows .now) (a .strings .now) (a .bits .now) (c .before .before .before .before .before .pre .0) .0 .rows-long)
 
 cells-of-requires : tie.Need-cells-of-requires
-cells-of-requires c κs = search needs
+cells-of-requires c κs = tt
 
 runs-of-requires : tie.Need-runs-of-requires
-runs-of-requires c κs = search needs
+runs-of-requires c κs = tt
 
 run-trits-of-requires : tie.Need-run-trits-of-requires
-run-trits-of-requires c κs = search needs
+run-trits-of-requires c κs = tt
 
 translate-tables-requires : tie.Need-translate-tables-requires
 unfolding part

@@ -7,10 +7,10 @@ use Rattle.translating.proofs.translate_lent.Statement.{statement}
 use Rattle.translating.proofs.translate_lent.Tie as tie
 
 clear-words-requires : tie.Need-clear-words-requires
-clear-words-requires c κs = search needs
+clear-words-requires c κs = tt
 
 check-tables-requires : tie.Need-check-tables-requires
-check-tables-requires c κs = search needs
+check-tables-requires c κs = tt
 
 enum-known-g : tie.Need-enum-known-g
 enum-known-g c = search needs

@@ -10,7 +10,7 @@ slice-aggregate-gather : tie.Need-slice-aggregate-gather
 slice-aggregate-gather c = search needs
 
 gather-requires : tie.Need-gather-requires
-gather-requires c κs = search needs
+gather-requires c κs = tt
 
 returns : tie.Need-returns
 returns c = let a = c .before .before .before .before .before .args in omega (arith, c .before .gather .ensures .next, length-bits (heldBits (a .runs .now) (a .trits .now)) (part (a .from) (a .size) (heldRuns (a .runs .now) (a .trits .now))))

@@ -51,7 +51,7 @@ shared-slice-read-input-width-2 : tie.Need-shared-slice-read-input-width-2 Inv-l
 shared-slice-read-input-width-2 c = search needs
 
 input-width-requires : tie.Need-input-width-requires Inv-loop μ-loop
-input-width-requires c κs = search needs
+input-width-requires c κs = tt
 
 cast-taken : tie.Need-cast-taken Inv-loop μ-loop
 cast-taken c = search needs

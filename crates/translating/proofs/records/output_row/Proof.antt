@@ -40,7 +40,7 @@ slice-aggregate-gather-slots : tie.Need-slice-aggregate-gather-slots
 slice-aggregate-gather-slots c = search needs
 
 gather-slots-requires : tie.Need-gather-slots-requires
-gather-slots-requires c κs = search needs
+gather-slots-requires c κs = tt
 
 sub-put-outputs : tie.Need-sub-put-outputs
 sub-put-outputs c = search needs

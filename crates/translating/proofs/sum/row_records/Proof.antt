@@ -24,7 +24,7 @@ word-of-requires-2 : tie.Need-word-of-requires-2
 word-of-requires-2 c κs = search needs
 
 width-of-requires : tie.Need-width-of-requires
-width-of-requires c κs = search needs
+width-of-requires c κs = tt
 
 mul-records-of : tie.Need-mul-records-of
 mul-records-of c = search needs

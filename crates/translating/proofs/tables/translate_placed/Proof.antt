@@ -8,7 +8,7 @@ sum-records-requires : tie.Need-sum-records-requires
 sum-records-requires c κs = let o = c .before .before .before .before .before .pre in (o .table .cells-long, o .table .few, λ row h. o .table .narrow row h .a)
 
 refused-requires : tie.Need-refused-requires
-refused-requires c κs = search needs
+refused-requires c κs = tt
 
 returns : tie.Need-returns
 returns c = rw (c .refused .ensures) (too-many _ _ _ _ (c .before .before .sum-records .ensures .0) (c .before .if1 .taken))
@@ -17,7 +17,7 @@ mul-if2 : tie.Need-mul-if2
 mul-if2 c = search needs
 
 refused-requires-2 : tie.Need-refused-requires-2
-refused-requires-2 c κs = search needs
+refused-requires-2 c κs = tt
 
 returns-2 : tie.Need-returns-2
 returns-2 c = rw (c .refused2 .ensures) (no-room _ _ _ _ (c .before .before .before .sum-records .ensures .0) (omega (arith, c .before .before .if1 .left)) (c .before .if2 .taken))

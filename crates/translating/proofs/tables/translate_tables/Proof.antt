@@ -21,7 +21,7 @@ unfolding zeros
 order-rows-requires c κs = (c .before .before .before .before .before .before .before .pre .0 .inside, refl, c .before .before .before .before .before .before .before .pre .1)
 
 refused-requires : tie.Need-refused-requires
-refused-requires c κs = search needs
+refused-requires c κs = tt
 
 same-length : tie.Need-same-length
 same-length c = search needs
