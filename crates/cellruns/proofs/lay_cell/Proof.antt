@@ -26,7 +26,6 @@ returns : tie.Need-returns
 returns c =
     let a = c .before .before .before .before .before .before .before .before .before .before .before .before .before .before .before .args in
     let w = a .w in
-    let h = c .before .before .before .before .before .before .before .before .before .before .before .before .before .before .before .pre .2 in
     let f = rw (c .enum-told .given .1) at (c .before .before .before .before .before .before .lay-operand .ensures) in
     (λ rs o. full-one rs (operandRuns (a .text .now) (w .a)) (operandRuns (a .text .now) (w .b)) (operandRuns (a .text .now) (w .c)) (f .0 rs o), tt)
 
@@ -38,7 +37,6 @@ lay-operand-requires-2 c κs =
     let e1 = rw (c .before .before .before .first .given .1) at (c .before .before .before .before .before .before .before .before .before .lay-operand .ensures) in
     let h1 = laid-held (a .text .now) (w .a) (e1 .0) h in
     let t1 = laid-trits (a .text .now) (w .a) (e1 .0) h in
-    let n1 = laid-runs (a .text .now) (w .a) (e1 .0) h in
     (c .before .before .before .before .before .before .before .before .before .before .before .before .before .before .before .before .before .before .pre .0, c .before .before .before .before .before .before .before .before .before .before .before .before .before .before .before .before .before .before .pre .1, h1, c .before .before .before .before .before .before .before .before .before .before .before .before .before .before .before .before .before .before .pre .3 .b, omega (arith, c .before .before .before .before .before .before .before .before .before .before .before .before .before .before .before .before .before .before .pre .3 .all))
 
 enum-known-second : tie.Need-enum-known-second
@@ -57,11 +55,7 @@ returns-2 : tie.Need-returns-2
 returns-2 c =
     let a = c .before .before .before .before .before .before .before .before .before .before .before .before .before .before .before .before .before .before .before .before .before .before .before .before .before .args in
     let w = a .w in
-    let h = c .before .before .before .before .before .before .before .before .before .before .before .before .before .before .before .before .before .before .before .before .before .before .before .before .before .pre .2 in
     let e1 = rw (c .before .before .before .before .before .before .before .before .before .before .first .given .1) at (c .before .before .before .before .before .before .before .before .before .before .before .before .before .before .before .before .lay-operand .ensures) in
-    let h1 = laid-held (a .text .now) (w .a) (e1 .0) h in
-    let t1 = laid-trits (a .text .now) (w .a) (e1 .0) h in
-    let n1 = laid-runs (a .text .now) (w .a) (e1 .0) h in
     let f = rw (c .enum-told2 .given .1) at (c .before .before .before .before .before .before .lay-operand2 .ensures) in
     (λ rs o. full-two rs (operandRuns (a .text .now) (w .a)) (operandRuns (a .text .now) (w .b)) (operandRuns (a .text .now) (w .c)) (f .0 (rs ++ operandRuns (a .text .now) (w .a)) (e1 .0 rs o)), tt)
 
@@ -73,11 +67,9 @@ lay-operand-requires-3 c κs =
     let e1 = rw (c .before .before .before .before .before .before .before .before .before .before .before .before .before .first .given .1) at (c .before .before .before .before .before .before .before .before .before .before .before .before .before .before .before .before .before .before .before .lay-operand .ensures) in
     let h1 = laid-held (a .text .now) (w .a) (e1 .0) h in
     let t1 = laid-trits (a .text .now) (w .a) (e1 .0) h in
-    let n1 = laid-runs (a .text .now) (w .a) (e1 .0) h in
     let e2 = rw (c .before .before .before .second .given .1) at (c .before .before .before .before .before .before .before .before .before .lay-operand2 .ensures) in
     let h2 = laid-held (a .text .now) (w .b) (e2 .0) h1 in
     let t2 = laid-trits (a .text .now) (w .b) (e2 .0) h1 in
-    let n2 = laid-runs (a .text .now) (w .b) (e2 .0) h1 in
     (c .before .before .before .before .before .before .before .before .before .before .before .before .before .before .before .before .before .before .before .before .before .before .before .before .before .before .before .before .pre .0, c .before .before .before .before .before .before .before .before .before .before .before .before .before .before .before .before .before .before .before .before .before .before .before .before .before .before .before .before .pre .1, h2, c .before .before .before .before .before .before .before .before .before .before .before .before .before .before .before .before .before .before .before .before .before .before .before .before .before .before .before .before .pre .3 .c, omega (arith, c .before .before .before .before .before .before .before .before .before .before .before .before .before .before .before .before .before .before .before .before .before .before .before .before .before .before .before .before .pre .3 .all))
 
 enum-known-third : tie.Need-enum-known-third
@@ -96,15 +88,8 @@ returns-3 : tie.Need-returns-3
 returns-3 c =
     let a = c .before .before .before .before .before .before .before .before .before .before .before .before .before .before .before .before .before .before .before .before .before .before .before .before .before .before .before .before .before .before .before .before .before .before .before .args in
     let w = a .w in
-    let h = c .before .before .before .before .before .before .before .before .before .before .before .before .before .before .before .before .before .before .before .before .before .before .before .before .before .before .before .before .before .before .before .before .before .before .before .pre .2 in
     let e1 = rw (c .before .before .before .before .before .before .before .before .before .before .before .before .before .before .before .before .before .before .before .before .first .given .1) at (c .before .before .before .before .before .before .before .before .before .before .before .before .before .before .before .before .before .before .before .before .before .before .before .before .before .before .lay-operand .ensures) in
-    let h1 = laid-held (a .text .now) (w .a) (e1 .0) h in
-    let t1 = laid-trits (a .text .now) (w .a) (e1 .0) h in
-    let n1 = laid-runs (a .text .now) (w .a) (e1 .0) h in
     let e2 = rw (c .before .before .before .before .before .before .before .before .before .before .second .given .1) at (c .before .before .before .before .before .before .before .before .before .before .before .before .before .before .before .before .lay-operand2 .ensures) in
-    let h2 = laid-held (a .text .now) (w .b) (e2 .0) h1 in
-    let t2 = laid-trits (a .text .now) (w .b) (e2 .0) h1 in
-    let n2 = laid-runs (a .text .now) (w .b) (e2 .0) h1 in
     let f = rw (c .enum-told3 .given .1) at (c .before .before .before .before .before .before .lay-operand3 .ensures) in
     (λ rs o. full-three rs (operandRuns (a .text .now) (w .a)) (operandRuns (a .text .now) (w .b)) (operandRuns (a .text .now) (w .c)) (f .0 ((rs ++ operandRuns (a .text .now) (w .a)) ++ operandRuns (a .text .now) (w .b)) (e2 .0 (rs ++ operandRuns (a .text .now) (w .a)) (e1 .0 rs o))), tt)
 
@@ -114,8 +99,6 @@ sub-t31 c =
     let w = a .w in
     let h = c .before .before .before .before .before .before .before .before .before .before .before .before .before .before .before .before .before .before .before .before .before .before .before .before .before .before .before .before .before .before .before .before .before .before .before .before .before .before .pre .2 in
     let e1 = rw (c .before .before .before .before .before .before .before .before .before .before .before .before .before .before .before .before .before .before .before .before .before .before .before .first .given .1) at (c .before .before .before .before .before .before .before .before .before .before .before .before .before .before .before .before .before .before .before .before .before .before .before .before .before .before .before .before .before .lay-operand .ensures) in
-    let h1 = laid-held (a .text .now) (w .a) (e1 .0) h in
-    let t1 = laid-trits (a .text .now) (w .a) (e1 .0) h in
     let n1 = laid-runs (a .text .now) (w .a) (e1 .0) h in
     omega arith
 
@@ -126,11 +109,7 @@ sub-t32 c =
     let h = c .before .before .before .before .before .before .before .before .before .before .before .before .before .before .before .before .before .before .before .before .before .before .before .before .before .before .before .before .before .before .before .before .before .before .before .before .before .before .before .before .pre .2 in
     let e1 = rw (c .before .before .before .before .before .before .before .before .before .before .before .before .before .before .before .before .before .before .before .before .before .before .before .before .before .first .given .1) at (c .before .before .before .before .before .before .before .before .before .before .before .before .before .before .before .before .before .before .before .before .before .before .before .before .before .before .before .before .before .before .before .lay-operand .ensures) in
     let h1 = laid-held (a .text .now) (w .a) (e1 .0) h in
-    let t1 = laid-trits (a .text .now) (w .a) (e1 .0) h in
-    let n1 = laid-runs (a .text .now) (w .a) (e1 .0) h in
     let e2 = rw (c .before .before .before .before .before .before .before .before .before .before .before .before .before .before .before .second .given .1) at (c .before .before .before .before .before .before .before .before .before .before .before .before .before .before .before .before .before .before .before .before .before .lay-operand2 .ensures) in
-    let h2 = laid-held (a .text .now) (w .b) (e2 .0) h1 in
-    let t2 = laid-trits (a .text .now) (w .b) (e2 .0) h1 in
     let n2 = laid-runs (a .text .now) (w .b) (e2 .0) h1 in
     omega arith
 
@@ -141,20 +120,14 @@ sub-t33 c =
     let h = c .before .before .before .before .before .before .before .before .before .before .before .before .before .before .before .before .before .before .before .before .before .before .before .before .before .before .before .before .before .before .before .before .before .before .before .before .before .before .before .before .before .before .pre .2 in
     let e1 = rw (c .before .before .before .before .before .before .before .before .before .before .before .before .before .before .before .before .before .before .before .before .before .before .before .before .before .before .before .first .given .1) at (c .before .before .before .before .before .before .before .before .before .before .before .before .before .before .before .before .before .before .before .before .before .before .before .before .before .before .before .before .before .before .before .before .before .lay-operand .ensures) in
     let h1 = laid-held (a .text .now) (w .a) (e1 .0) h in
-    let t1 = laid-trits (a .text .now) (w .a) (e1 .0) h in
-    let n1 = laid-runs (a .text .now) (w .a) (e1 .0) h in
     let e2 = rw (c .before .before .before .before .before .before .before .before .before .before .before .before .before .before .before .before .before .second .given .1) at (c .before .before .before .before .before .before .before .before .before .before .before .before .before .before .before .before .before .before .before .before .before .before .before .lay-operand2 .ensures) in
     let h2 = laid-held (a .text .now) (w .b) (e2 .0) h1 in
-    let t2 = laid-trits (a .text .now) (w .b) (e2 .0) h1 in
-    let n2 = laid-runs (a .text .now) (w .b) (e2 .0) h1 in
     let e3 = rw (c .before .before .before .before .before .before .before .third .given .1) at (c .before .before .before .before .before .before .before .before .before .before .before .before .before .lay-operand3 .ensures) in
-    let h3 = laid-held (a .text .now) (w .c) (e3 .0) h2 in
-    let t3 = laid-trits (a .text .now) (w .c) (e3 .0) h2 in
     let n3 = laid-runs (a .text .now) (w .c) (e3 .0) h2 in
     omega arith
 
 any-bare-requires : tie.Need-any-bare-requires
-any-bare-requires c κs = search needs
+any-bare-requires c κs = tt
 
 same-length-7 : tie.Need-same-length-7
 same-length-7 c = omega (arith, c .before .before .before .before .before .before .before .before .before .before .before .before .before .before .before .before .before .before .before .before .before .before .before .before .before .before .before .before .before .before .before .before .before .before .lay-operand .kept, c .before .before .before .before .before .before .before .before .before .before .before .before .before .before .before .before .before .before .before .before .before .before .before .before .lay-operand2 .kept, c .before .before .before .before .before .before .before .before .before .before .before .before .before .before .lay-operand3 .kept)
@@ -169,15 +142,11 @@ returns-4 c =
     let h = c .before .before .before .before .before .before .before .before .before .before .before .before .before .before .before .before .before .before .before .before .before .before .before .before .before .before .before .before .before .before .before .before .before .before .before .before .before .before .before .before .before .before .before .pre .2 in
     let e1 = rw (c .before .before .before .before .before .before .before .before .before .before .before .before .before .before .before .before .before .before .before .before .before .before .before .before .before .before .before .before .first .given .1) at (c .before .before .before .before .before .before .before .before .before .before .before .before .before .before .before .before .before .before .before .before .before .before .before .before .before .before .before .before .before .before .before .before .before .before .lay-operand .ensures) in
     let h1 = laid-held (a .text .now) (w .a) (e1 .0) h in
-    let t1 = laid-trits (a .text .now) (w .a) (e1 .0) h in
     let n1 = laid-runs (a .text .now) (w .a) (e1 .0) h in
     let e2 = rw (c .before .before .before .before .before .before .before .before .before .before .before .before .before .before .before .before .before .before .second .given .1) at (c .before .before .before .before .before .before .before .before .before .before .before .before .before .before .before .before .before .before .before .before .before .before .before .before .lay-operand2 .ensures) in
     let h2 = laid-held (a .text .now) (w .b) (e2 .0) h1 in
-    let t2 = laid-trits (a .text .now) (w .b) (e2 .0) h1 in
     let n2 = laid-runs (a .text .now) (w .b) (e2 .0) h1 in
     let e3 = rw (c .before .before .before .before .before .before .before .before .third .given .1) at (c .before .before .before .before .before .before .before .before .before .before .before .before .before .before .lay-operand3 .ensures) in
-    let h3 = laid-held (a .text .now) (w .c) (e3 .0) h2 in
-    let t3 = laid-trits (a .text .now) (w .c) (e3 .0) h2 in
     let n3 = laid-runs (a .text .now) (w .c) (e3 .0) h2 in
     (λ rs o. counted rs (operandRuns (a .text .now) (w .a)) (operandRuns (a .text .now) (w .b)) (operandRuns (a .text .now) (w .c)) _ (omega arith) (omega arith) (omega arith) (e3 .0 ((rs ++ operandRuns (a .text .now) (w .a)) ++ operandRuns (a .text .now) (w .b)) (e2 .0 (rs ++ operandRuns (a .text .now) (w .a)) (e1 .0 rs o))), c .any-bare .ensures ∙ bare-of-three (e1 .1) (e2 .1) (e3 .1))
 

@@ -20,7 +20,7 @@ returns c =
     operand-laid (a .text .now) (a .operand) w (nothing-laid (a .text .now) (a .runs .now) (a .trits .now) (a .so))
 
 is-part-requires : tie.Need-is-part-requires
-is-part-requires c κs = search needs
+is-part-requires c κs = tt
 
 lay-alone-requires : tie.Need-lay-alone-requires
 lay-alone-requires c κs =

@@ -4,7 +4,7 @@ use Rattle.cellruns.proofs.operands.add_token.Statement.{statement}
 use Rattle.cellruns.proofs.operands.add_token.Tie as tie
 
 part-of-requires : tie.Need-part-of-requires
-part-of-requires c κs = search needs
+part-of-requires c κs = tt
 
 add-part-requires : tie.Need-add-part-requires
 add-part-requires c κs = rw (c .before .before .part-of .ensures) (c .before .before .before .before .before .before .before .before .pre .0, c .before .before .before .before .before .before .before .before .pre .1, c .before .before .before .before .before .before .before .before .pre .2)
@@ -19,7 +19,7 @@ returns : tie.Need-returns
 returns c = rw (← c .before .before .before .before .before .before .before .part-of .ensures) (c .before .before .before .before .add-part .ensures)
 
 str-of-requires : tie.Need-str-of-requires
-str-of-requires c κs = search needs
+str-of-requires c κs = tt
 
 add-constant-requires : tie.Need-add-constant-requires
 add-constant-requires c κs =

@@ -23,7 +23,7 @@ returns : tie.Need-returns
 returns c = alone-full (c .before .before .before .before .before .before .before .before .before .before .before .before .args .text .now) (tokenPart (c .before .before .before .before .before .before .before .before .before .before .before .before .args .token)) (c .before .before .before .before .before .before .before .before .before .before .before .before .pre .1) (rw (c .enum-told .given .1) at (c .before .before .before .before .before .before .add-token .ensures))
 
 is-bare-requires : tie.Need-is-bare-requires
-is-bare-requires c κs = search needs
+is-bare-requires c κs = tt
 
 same-length-3 : tie.Need-same-length-3
 same-length-3 c = search needs

@@ -71,7 +71,7 @@ returns-2 c =
     spot-full (a .text .now) _ (a .runs .now) (a .trits .now) (a .so) (l .next .next .at) (l .left) (s .result) (s .ensures) (l .inv .2) (c .before .before .before .before .before .before .if2 .taken) (c .before .before .before .before .before .before .before .before .before .loop-test .taken) (rw (c .enum-told .given .1) at (c .before .before .before .before .add-piece .ensures))
 
 or-none-requires : tie.Need-or-none-requires Inv-loop μ-loop
-or-none-requires c κs = search needs
+or-none-requires c κs = tt
 
 sub-left : tie.Need-sub-left Inv-loop μ-loop
 sub-left c = search needs
@@ -110,7 +110,7 @@ returns-3 c =
     walks-done (a .text .now) _ (a .runs .now) (a .trits .now) (a .so) (walks-as (parts-refused (a .text .now) (l .next .next .at) (l .left) _ e) (l .inv .2))
 
 is-part-requires : tie.Need-is-part-requires Inv-loop μ-loop
-is-part-requires c κs = search needs
+is-part-requires c κs = tt
 
 add-token-requires : tie.Need-add-token-requires Inv-loop μ-loop
 add-token-requires c κs =
@@ -142,7 +142,7 @@ returns-4 c =
     walks-full (a .text .now) _ (a .runs .now) (a .trits .now) (a .so) _ _ (walks-as (parts-took (a .text .now) (l .next .next .at) _ _ e (l .left) (c .before .before .before .before .before .before .before .before .before .before .before .before .before .before .before .before .before .before .loop-test .taken) is) (l .inv .2)) (rw (c .enum-told3 .given .1) at (c .before .before .before .before .before .before .add-token .ensures))
 
 or-bare-requires : tie.Need-or-bare-requires Inv-loop μ-loop
-or-bare-requires c κs = search needs
+or-bare-requires c κs = tt
 
 sub-left-2 : tie.Need-sub-left-2 Inv-loop μ-loop
 sub-left-2 c = search needs

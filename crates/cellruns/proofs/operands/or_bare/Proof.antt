@@ -6,7 +6,7 @@ returns : tie.Need-returns
 returns c = search needs
 
 is-bare-requires : tie.Need-is-bare-requires
-is-bare-requires c κs = search needs
+is-bare-requires c κs = tt
 
 returns-2 : tie.Need-returns-2
 returns-2 c = rw (c .before .if1 .left) (c .is-bare .ensures)

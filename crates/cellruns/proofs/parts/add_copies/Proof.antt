@@ -16,7 +16,7 @@ abbrev μ-loop : tie.MeasureT-loop
 μ-loop t text base count runs₀ trits₀ first used₀ left₀ runs trits used left = left
 
 base-width-requires : tie.Need-base-width-requires Inv-loop μ-loop
-base-width-requires c κs = search needs
+base-width-requires c κs = tt
 
 returns : tie.Need-returns Inv-loop μ-loop
 returns c =
