@@ -9,7 +9,7 @@ metas-of-requires : tie.Need-metas-of-requires
 metas-of-requires c κs = search needs
 
 misnames-requires : tie.Need-misnames-requires
-misnames-requires c κs = search needs
+misnames-requires c κs = tt
 
 returns : tie.Need-returns
 returns c = let e = c .misnames .ensures .1 in rw (c .before .before .meta-numbers-of .ensures, c .before .metas-of .ensures) at e

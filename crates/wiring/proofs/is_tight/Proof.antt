@@ -22,7 +22,7 @@ unfolding tight
 returns-2 c = search tests
 
 output-bits-requires : tie.Need-output-bits-requires
-output-bits-requires c κs = search needs
+output-bits-requires c κs = tt
 
 add-if3 : tie.Need-add-if3
 add-if3 c = let a = c .before .before .before .before .before .before .before .args in omega (arith, c .before .output-bits .ensures, out-most (a .w) (c .before .before .before .before .before .before .before .pre .3))
@@ -32,7 +32,7 @@ unfolding tight
 returns-3 c = search (tests, ← c .before .before .output-bits .ensures)
 
 name-size-requires : tie.Need-name-size-requires
-name-size-requires c κs = search needs
+name-size-requires c κs = tt
 
 returns-4 : tie.Need-returns-4
 unfolding tight

@@ -13,7 +13,7 @@ returns c = let a = c .before .before .before .before .before .args in λ number
     twice-number (a .text .now) (a .w) numbers (a .index) (cellsSaid ns) _ (c .before .number-row .ensures numbers m small) (c .if1 .taken)
 
 has-name-requires : tie.Need-has-name-requires
-has-name-requires c κs = search needs
+has-name-requires c κs = tt
 
 cells-of-requires : tie.Need-cells-of-requires
 cells-of-requires c κs = search needs

@@ -6,7 +6,7 @@ meta-numbers-of-requires : tie.Need-meta-numbers-of-requires
 meta-numbers-of-requires c κs = search needs
 
 ref-row-requires : tie.Need-ref-row-requires
-ref-row-requires c κs = search needs
+ref-row-requires c κs = tt
 
 returns : tie.Need-returns
 returns c = let e = c .ref-row .ensures .1 in rw (c .before .meta-numbers-of .ensures) at e

@@ -35,7 +35,7 @@ returns-2 : tie.Need-returns-2
 returns-2 c = let s = c .before .before .before .before .before .before .before .before .before .before .before .before .before .before .before in let a = s .args in let e = s .pre .4 in let i = wiring-in (a .text .now) (a .d) (a .w) e (s .pre .3 .decl) in λ so h. out-misnamed (a .text .now) so (a .d) (a .w) e (asked-twice (a .text .now) so (a .n) (a .rows .now) (a .bits .now) (a .work .now) h (a .w) (a .d .index) _ (c .before .before .before .before .before .is-twice .ensures (so .cellNumbers) (h .cells .notes) (h .cells .maps) (s .pre .3 .index) (h .cells .rows) (cells-count (a .text .now) so (a .n) (a .rows .now) (a .bits .now) (a .work .now) h (a .w)) (h .cells .spelled)) ∙ c .before .before .before .before .if1 .left) (asked-meta (a .text .now) so (a .n) (a .rows .now) (a .bits .now) (a .work .now) h (a .w) _ (c .before .is-misnamed .ensures (h .metas .notes) (so .metaNumbers) (h .metas .rows) (metas-count (a .text .now) so (a .n) (a .rows .now) (a .bits .now) (a .work .now) h (a .w)) (h .metas .maps) (i .meta .small)) ∙ c .if2 .taken)
 
 is-nameless-requires : tie.Need-is-nameless-requires
-is-nameless-requires c κs = search needs
+is-nameless-requires c κs = tt
 
 same-length-5 : tie.Need-same-length-5
 same-length-5 c = search needs
@@ -47,7 +47,7 @@ returns-3 : tie.Need-returns-3
 returns-3 c = let s = c .before .before .before .before .before .before .before .before .before .before .before .before .before .before .before .before .before in let a = s .args in let e = s .pre .4 in let i = wiring-in (a .text .now) (a .d) (a .w) e (s .pre .3 .decl) in λ so h. out-incomplete (a .text .now) so (a .d) (a .w) e (asked-twice (a .text .now) so (a .n) (a .rows .now) (a .bits .now) (a .work .now) h (a .w) (a .d .index) _ (c .before .before .before .before .before .before .before .is-twice .ensures (so .cellNumbers) (h .cells .notes) (h .cells .maps) (s .pre .3 .index) (h .cells .rows) (cells-count (a .text .now) so (a .n) (a .rows .now) (a .bits .now) (a .work .now) h (a .w)) (h .cells .spelled)) ∙ c .before .before .before .before .before .before .if1 .left) (asked-meta (a .text .now) so (a .n) (a .rows .now) (a .bits .now) (a .work .now) h (a .w) _ (c .before .before .before .is-misnamed .ensures (h .metas .notes) (so .metaNumbers) (h .metas .rows) (metas-count (a .text .now) so (a .n) (a .rows .now) (a .bits .now) (a .work .now) h (a .w)) (h .metas .maps) (i .meta .small)) ∙ c .before .before .if2 .left) (asked-name (a .text .now) so (a .n) (a .rows .now) (a .bits .now) (a .work .now) h (a .w) i _ (c .before .is-nameless .ensures) ∙ c .if3 .taken)
 
 is-misfit-requires : tie.Need-is-misfit-requires
-is-misfit-requires c κs = search needs
+is-misfit-requires c κs = tt
 
 same-length-7 : tie.Need-same-length-7
 same-length-7 c = search needs

@@ -6,7 +6,7 @@ cell-numbers-of-requires : tie.Need-cell-numbers-of-requires
 cell-numbers-of-requires c κs = search needs
 
 row-of-requires : tie.Need-row-of-requires
-row-of-requires c κs = search needs
+row-of-requires c κs = tt
 
 returns : tie.Need-returns
 returns c = let e = c .row-of .ensures .1 in rw (c .before .cell-numbers-of .ensures) at e

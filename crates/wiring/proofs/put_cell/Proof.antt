@@ -7,7 +7,7 @@ cast-put-three : tie.Need-cast-put-three
 cast-put-three c = search needs
 
 name-from-requires : tie.Need-name-from-requires
-name-from-requires c κs = search needs
+name-from-requires c κs = tt
 
 cast-put-three-2 : tie.Need-cast-put-three-2
 cast-put-three-2 c = search needs
@@ -19,7 +19,7 @@ add-put-three : tie.Need-add-put-three
 add-put-three c = search needs
 
 name-size-requires : tie.Need-name-size-requires
-name-size-requires c κs = search needs
+name-size-requires c κs = tt
 
 cast-put-three-3 : tie.Need-cast-put-three-3
 cast-put-three-3 c = search needs

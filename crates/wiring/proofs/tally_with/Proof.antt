@@ -14,19 +14,19 @@ add-t7 : tie.Need-add-t7
 add-t7 c = search needs
 
 output-bits-requires : tie.Need-output-bits-requires
-output-bits-requires c κs = search needs
+output-bits-requires c κs = tt
 
 add-t9 : tie.Need-add-t9
 add-t9 c = let s = c .before .before .before .before .before in omega (arith, c .before .output-bits .ensures, out-most (s .args .w) (s .pre .4))
 
 name-size-requires : tie.Need-name-size-requires
-name-size-requires c κs = search needs
+name-size-requires c κs = tt
 
 add-t11 : tie.Need-add-t11
 add-t11 c = search needs
 
 either-requires : tie.Need-either-requires
-either-requires c κs = search needs
+either-requires c κs = tt
 
 returns : tie.Need-returns
 returns c = rw (c .either .ensures, c .before .before .name-size .ensures, c .before .before .before .before .output-bits .ensures)
