@@ -1,3 +1,4 @@
+use native.Mathlib.Omega.{arith}
 use Rattle.writing.proofs.Stands.{then, same-text}
 use borrow.Author.Needs.{needs}
 use Rattle.celllines.proofs.put_further.Statement.{statement}
@@ -25,7 +26,7 @@ shared-slice-read-put-given : tie.Need-shared-slice-read-put-given
 shared-slice-read-put-given c = search needs
 
 put-given-requires : tie.Need-put-given-requires
-put-given-requires c κs = search needs
+put-given-requires c κs = (c .before .before .before .before .before .before .before .before .before .before .before .before .before .pre .1, c .before .before .before .before .before .before .before .before .before .before .before .before .before .pre .2, omega arith)
 
 shared-slice-read-wide-3 : tie.Need-shared-slice-read-wide-3
 shared-slice-read-wide-3 c = search needs
@@ -43,7 +44,7 @@ shared-slice-read-put-given-2 : tie.Need-shared-slice-read-put-given-2
 shared-slice-read-put-given-2 c = search needs
 
 put-given-requires-2 : tie.Need-put-given-requires-2
-put-given-requires-2 c κs = search needs
+put-given-requires-2 c κs = (c .before .before .before .before .before .before .before .before .before .before .before .before .before .before .before .before .before .before .before .before .before .pre .1, c .before .before .before .before .before .before .before .before .before .before .before .before .before .before .before .before .before .before .before .before .before .pre .2, omega arith)
 
 same-length : tie.Need-same-length
 same-length c = search needs
