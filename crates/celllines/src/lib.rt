@@ -25,7 +25,7 @@ use words::wide;
 use writing::room::put;
 use writing::room::put_all;
 
-// Where the keyword of each kind begins among all keywords in order, and where the last one ends; none has the number 0.
+// Where the keyword of each kind begins among all keywords in order, and where the last one ends; no kind has the number 0.
 const STARTS: [usize; 14] = [0, 0, 5, 11, 14, 17, 20, 22, 25, 28, 31, 33, 36, 39];
 
 // A kind's number as a byte: 0, which no kind has, where it is none.

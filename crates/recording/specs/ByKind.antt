@@ -12,7 +12,7 @@ use Rattle.cells.specs.Records.{Made, ultMade, sltMade}
 unfoldable pub copied : ℕ → Bool
 copied kind = ltb kind notKind || ltb sltKind kind
 
--- the bits that ult's rule goes over
+-- the number of bits that ult's rule goes over
 unfoldable pub lowBits : ℕ → List ℕ → List ℕ → ℕ
 lowBits kind a b = pick (eqb kind ultKind) (min (length a) (length b)) (min (length a - 1) (length b))
 

@@ -1,5 +1,5 @@
-// Tours: the members of a set again, one a step, for whoever builds their rows, in a text of any length. It promises that step by step they are the members that the
-// definitions of brackets give. Reading stands above it.
+// Tours: the members of a set again, one a step, for whoever builds their rows, in a text of any length. It promises that step by step
+// they are the members that the definitions of brackets give. Reading stands above it.
 use brackets::Membered;
 use brackets::Members;
 use brackets::Tour;

@@ -17,95 +17,72 @@ Inv-loop rows n ins values₀ start₀ at₀ i₀ values start at i = Assigned r
 abbrev μ-loop : tie.MeasureT-loop
 μ-loop rows n ins values₀ start₀ at₀ i₀ values start at i = n - i
 
--- src/lib.rt:71:5
 loop-holds : tie.Need-loop-holds Inv-loop μ-loop
 loop-holds c = assigned-none (c .before .before .before .args .rows .now) (c .before .before .before .args .n) (c .before .before .before .args .ins .now) (c .before .before .before .args .values .now)
 
--- src/lib.rt:72:22
 mul-w : tie.Need-mul-w Inv-loop μ-loop
 mul-w c = search needs
 
--- src/lib.rt:72:22
 add-w : tie.Need-add-w Inv-loop μ-loop
 add-w c = search needs
 
--- src/lib.rt:72:17
 mul-w-2 : tie.Need-mul-w-2 Inv-loop μ-loop
 mul-w-2 c = search needs
 
--- src/lib.rt:72:17
 shared-slice-read-w : tie.Need-shared-slice-read-w Inv-loop μ-loop
 shared-slice-read-w c = search needs
 
--- src/lib.rt:72:17
 cast-w : tie.Need-cast-w Inv-loop μ-loop
 cast-w c = omega (arith, c .shared-slice-known3 .given (c .before .before .loop .i * 9 + 1))
 
--- src/lib.rt:73:38
 mul-input-width : tie.Need-mul-input-width Inv-loop μ-loop
 mul-input-width c = search needs
 
--- src/lib.rt:73:33
 mul-input-width-2 : tie.Need-mul-input-width-2 Inv-loop μ-loop
 mul-input-width-2 c = search needs
 
--- src/lib.rt:73:33
 shared-slice-read-input-width : tie.Need-shared-slice-read-input-width Inv-loop μ-loop
 shared-slice-read-input-width c = search needs
 
--- src/lib.rt:73:51
 mul-input-width-3 : tie.Need-mul-input-width-3 Inv-loop μ-loop
 mul-input-width-3 c = search needs
 
--- src/lib.rt:73:51
 add-input-width : tie.Need-add-input-width Inv-loop μ-loop
 add-input-width c = search needs
 
--- src/lib.rt:73:46
 mul-input-width-4 : tie.Need-mul-input-width-4 Inv-loop μ-loop
 mul-input-width-4 c = search needs
 
--- src/lib.rt:73:46
 shared-slice-read-input-width-2 : tie.Need-shared-slice-read-input-width-2 Inv-loop μ-loop
 shared-slice-read-input-width-2 c = search needs
 
--- src/lib.rt:73:21
 input-width-requires : tie.Need-input-width-requires Inv-loop μ-loop
 input-width-requires c κs = search needs
 
--- src/lib.rt:73:21
 cast-taken : tie.Need-cast-taken Inv-loop μ-loop
 cast-taken c = search needs
 
--- src/lib.rt:74:9
 copy-bits-requires : tie.Need-copy-bits-requires Inv-loop μ-loop
 copy-bits-requires c κs = let p = c .before .before .before .before .before .before .loop .inv in let h = c .before .before .before .before .before .loop-test .taken in let k = c .before .before .before .before .before .before .before .before .before .before .pre in (omega (arith, assign-taken p _ _ refl (c .before .input-width .ensures) h), omega (arith, p .long, assign-room p _ _ refl (c .before .input-width .ensures) h))
 
--- src/lib.rt:75:9
 add-start : tie.Need-add-start Inv-loop μ-loop
 add-start c = omega (arith, assign-bits (c .before .before .before .before .before .before .before .before .before .loop .inv) _ _ refl (c .before .before .before .before .input-width .ensures) (c .before .before .before .before .before .before .before .before .loop-test .taken), c .before .before .before .before .before .before .before .before .before .before .before .before .before .pre)
 
--- src/lib.rt:76:9
 add-at : tie.Need-add-at Inv-loop μ-loop
 add-at c = omega (arith, assign-taken (c .before .before .before .before .before .before .before .before .before .loop .inv) _ _ refl (c .before .before .before .before .input-width .ensures) (c .before .before .before .before .before .before .before .before .loop-test .taken), c .before .before .before .before .before .before .before .before .before .before .before .before .before .pre)
 
--- src/lib.rt:77:9
 add-i : tie.Need-add-i Inv-loop μ-loop
 add-i c = search needs
 
--- src/lib.rt:71:5
 loop-less : tie.Need-loop-less Inv-loop μ-loop
 loop-less c = omega arith
 
--- src/lib.rt:71:5
 loop-again : tie.Need-loop-again Inv-loop μ-loop
 loop-again c = assigned-more (c .before .before .before .before .before .before .before .before .before .loop .inv) _ _ refl (c .before .before .before .before .input-width .ensures) (c .before .before .before .before .before .before .before .before .loop-test .taken) _ (c .before .before .copy-bits .ensures)
 
--- src/lib.rt:64:1
 same-length : tie.Need-same-length Inv-loop μ-loop
 same-length c = c .before .loop .inv .long
 
--- src/lib.rt:64:1
 returns : tie.Need-returns Inv-loop μ-loop
 returns c = assigned-all (c .before .loop .inv) (c .loop-test .left)
 

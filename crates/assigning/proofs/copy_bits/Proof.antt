@@ -17,43 +17,33 @@ Inv-loop from at size to₀ place i₀ to i = to ≡ sets to₀ place (take i (p
 abbrev μ-loop : tie.MeasureT-loop
 μ-loop from at size to₀ place i₀ to i = size - i
 
--- src/lib.rt:57:5
 loop-holds : tie.Need-loop-holds Inv-loop μ-loop
 loop-holds c = refl
 
--- src/lib.rt:58:30
 add-to : tie.Need-add-to Inv-loop μ-loop
 add-to c = search needs
 
--- src/lib.rt:58:25
 shared-slice-read-to : tie.Need-shared-slice-read-to Inv-loop μ-loop
 shared-slice-read-to c = search needs
 
--- src/lib.rt:58:12
 add-to-2 : tie.Need-add-to-2 Inv-loop μ-loop
 add-to-2 c = search needs
 
--- src/lib.rt:58:9
 slice-write-to : tie.Need-slice-write-to Inv-loop μ-loop
 slice-write-to c = rw (c .before .before .loop .inv) (simp length-sets (omega arith))
 
--- src/lib.rt:59:9
 add-i : tie.Need-add-i Inv-loop μ-loop
 add-i c = search needs
 
--- src/lib.rt:57:5
 loop-less : tie.Need-loop-less Inv-loop μ-loop
 loop-less c = omega arith
 
--- src/lib.rt:57:5
 loop-again : tie.Need-loop-again Inv-loop μ-loop
 loop-again c = let a = c .before .before .before .args in let p = c .before .before .loop in copied-more (a .from .now) (a .at) (a .size) (c .before .before .before .pre .0) (p .to) (a .to .now) (a .place) (p .i) (c .before .loop-test .taken) (p .inv)
 
--- src/lib.rt:52:1
 same-length : tie.Need-same-length Inv-loop μ-loop
 same-length c = rw (c .before .loop .inv) (simp length-sets refl)
 
--- src/lib.rt:52:1
 returns : tie.Need-returns Inv-loop μ-loop
 returns c = let a = c .before .before .args in let p = c .before .loop in copied-all (a .from .now) (a .at) (a .size) (c .before .before .pre .0) (p .to) (a .to .now) (a .place) (p .i) (c .loop-test .left) (p .inv)
 

@@ -14,59 +14,45 @@ Inv-loop rows n count₀ i₀ count i = Counted rows n i count
 abbrev μ-loop : tie.MeasureT-loop
 μ-loop rows n count₀ i₀ count i = n - i
 
--- src/lib.rt:44:5
 loop-holds : tie.Need-loop-holds Inv-loop μ-loop
 loop-holds c = counted-none (c .before .args .rows .now) (c .before .args .n)
 
--- src/lib.rt:45:35
 mul-input-width : tie.Need-mul-input-width Inv-loop μ-loop
 mul-input-width c = search needs
 
--- src/lib.rt:45:30
 mul-input-width-2 : tie.Need-mul-input-width-2 Inv-loop μ-loop
 mul-input-width-2 c = search needs
 
--- src/lib.rt:45:30
 shared-slice-read-input-width : tie.Need-shared-slice-read-input-width Inv-loop μ-loop
 shared-slice-read-input-width c = search needs
 
--- src/lib.rt:45:48
 mul-input-width-3 : tie.Need-mul-input-width-3 Inv-loop μ-loop
 mul-input-width-3 c = search needs
 
--- src/lib.rt:45:48
 add-input-width : tie.Need-add-input-width Inv-loop μ-loop
 add-input-width c = search needs
 
--- src/lib.rt:45:43
 mul-input-width-4 : tie.Need-mul-input-width-4 Inv-loop μ-loop
 mul-input-width-4 c = search needs
 
--- src/lib.rt:45:43
 shared-slice-read-input-width-2 : tie.Need-shared-slice-read-input-width-2 Inv-loop μ-loop
 shared-slice-read-input-width-2 c = search needs
 
--- src/lib.rt:45:18
 input-width-requires : tie.Need-input-width-requires Inv-loop μ-loop
 input-width-requires c κs = search needs
 
--- src/lib.rt:45:9
 add-count : tie.Need-add-count Inv-loop μ-loop
 add-count c = omega (arith, count-room (c .before .before .before .before .loop .inv) (c .input-width .result) (c .input-width .ensures) (c .before .before .before .loop-test .taken), c .before .before .before .before .before .before .pre .2)
 
--- src/lib.rt:46:9
 add-i : tie.Need-add-i Inv-loop μ-loop
 add-i c = search needs
 
--- src/lib.rt:44:5
 loop-less : tie.Need-loop-less Inv-loop μ-loop
 loop-less c = omega arith
 
--- src/lib.rt:44:5
 loop-again : tie.Need-loop-again Inv-loop μ-loop
 loop-again c = counted-more (c .before .before .before .before .loop .inv) (c .input-width .result) (c .input-width .ensures) (c .before .before .before .loop-test .taken)
 
--- src/lib.rt:38:1
 returns : tie.Need-returns Inv-loop μ-loop
 returns c = counted-all (c .before .loop .inv) (c .loop-test .left)
 

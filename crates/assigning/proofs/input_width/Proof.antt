@@ -5,11 +5,9 @@ use Rattle.assigning.proofs.input_width.Tie as tie
 use Rattle.assigning.proofs.input_width.Reads as reads
 use Rattle.assigning.proofs.input_width.Lts as lts
 
--- src/lib.rt:32:9
 returns : tie.Need-returns
 returns c = search tests
 
--- src/lib.rt:28:1
 returns-2 : tie.Need-returns-2
 returns-2 c = search tests
 

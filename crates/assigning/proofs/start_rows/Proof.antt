@@ -13,55 +13,42 @@ Inv-loop rows n starts₀ start₀ i₀ starts start i = Started rows n starts�
 abbrev μ-loop : tie.MeasureT-loop
 μ-loop rows n starts₀ start₀ i₀ starts start i = n - i
 
--- src/lib.rt:20:5
 loop-holds : tie.Need-loop-holds Inv-loop μ-loop
 loop-holds c = started-none (c .args .rows .now) (c .args .n) (c .args .starts .now)
 
--- src/lib.rt:21:9
 mul-starts : tie.Need-mul-starts Inv-loop μ-loop
 mul-starts c = search needs
 
--- src/lib.rt:21:9
 slice-write-starts : tie.Need-slice-write-starts Inv-loop μ-loop
 slice-write-starts c = omega (arith, c .before .loop .inv .long, c .loop-test .taken, c .before .before .pre .2)
 
--- src/lib.rt:22:23
 mul-start : tie.Need-mul-start Inv-loop μ-loop
 mul-start c = search needs
 
--- src/lib.rt:22:23
 add-start : tie.Need-add-start Inv-loop μ-loop
 add-start c = search needs
 
--- src/lib.rt:22:18
 mul-start-2 : tie.Need-mul-start-2 Inv-loop μ-loop
 mul-start-2 c = search needs
 
--- src/lib.rt:22:18
 shared-slice-read-start : tie.Need-shared-slice-read-start Inv-loop μ-loop
 shared-slice-read-start c = search needs
 
--- src/lib.rt:22:9
 add-start-2 : tie.Need-add-start-2 Inv-loop μ-loop
 add-start-2 c = omega (arith, start-room (c .before .before .loop .inv) (c .before .loop-test .taken), c .before .before .before .pre .3)
 
--- src/lib.rt:23:9
 add-i : tie.Need-add-i Inv-loop μ-loop
 add-i c = search needs
 
--- src/lib.rt:20:5
 loop-less : tie.Need-loop-less Inv-loop μ-loop
 loop-less c = omega arith
 
--- src/lib.rt:20:5
 loop-again : tie.Need-loop-again Inv-loop μ-loop
 loop-again c = started-more (c .before .before .loop .inv) (c .before .loop-test .taken)
 
--- src/lib.rt:14:1
 same-length : tie.Need-same-length Inv-loop μ-loop
 same-length c = c .before .loop .inv .long
 
--- src/lib.rt:14:1
 returns : tie.Need-returns Inv-loop μ-loop
 returns c = started-all (c .before .loop .inv) (c .loop-test .left)
 

@@ -7,15 +7,12 @@ use Rattle.blanks.proofs.no_bytes.Lts as lts
 use Rattle.blanks.proofs.past_bytes.Reads as past-bytes-reads
 use Rattle.pools.proofs.blank_bytes.Reads as blank-bytes-reads
 
--- src/blank.rt:54:23
 past-bytes-requires : tie.Need-past-bytes-requires
 past-bytes-requires c κs = search needs
 
--- src/blank.rt:54:5
 blank-bytes-requires : tie.Need-blank-bytes-requires
 blank-bytes-requires c κs = search needs
 
--- src/blank.rt:51:1
 returns : tie.Need-returns
 returns c = c .blank-bytes .ensures ∙ c .before .past-bytes .ensures
 

@@ -7,15 +7,12 @@ use Rattle.blanks.proofs.no_words.Lts as lts
 use Rattle.blanks.proofs.past_words.Reads as past-words-reads
 use Rattle.pools.proofs.blank_words.Reads as blank-words-reads
 
--- src/blank.rt:101:24
 past-words-requires : tie.Need-past-words-requires
 past-words-requires c κs = search needs
 
--- src/blank.rt:101:5
 blank-words-requires : tie.Need-blank-words-requires
 blank-words-requires c κs = search needs
 
--- src/blank.rt:98:1
 returns : tie.Need-returns
 returns c = c .blank-words .ensures ∙ c .before .past-words .ensures
 

@@ -21,51 +21,39 @@ Inv-loop ios strings n name i₀ i = (i ≤ n) × (ioFrom (iosIn (stringsAlone s
 abbrev μ-loop : tie.MeasureT-loop
 μ-loop ios strings n name i₀ i = n - i
 
--- src/lib.rt:101:5
 loop-holds : tie.Need-loop-holds Inv-loop μ-loop
 loop-holds c = let a = c .before .before .before .args in (omega arith, let e : a .n - 0 ≡ a .n = omega arith in rw e)
 
--- src/lib.rt:102:12
 io-named-requires : tie.Need-io-named-requires Inv-loop μ-loop
 io-named-requires c κs = let p = c .before .loop in (omega (arith, c .before .before .before .before .before .pre .long, c .loop-test .taken), c .before .before .before .before .before .pre .each (p .i) (c .loop-test .taken))
 
--- src/lib.rt:103:38
 mul-t8 : tie.Need-mul-t8 Inv-loop μ-loop
 mul-t8 c = search needs
 
--- src/lib.rt:103:38
 add-t9 : tie.Need-add-t9 Inv-loop μ-loop
 add-t9 c = search needs
 
--- src/lib.rt:103:34
 mul-t10 : tie.Need-mul-t10 Inv-loop μ-loop
 mul-t10 c = search needs
 
--- src/lib.rt:103:34
 shared-slice-read-t12 : tie.Need-shared-slice-read-t12 Inv-loop μ-loop
 shared-slice-read-t12 c = search needs
 
--- src/lib.rt:103:13
 returns : tie.Need-returns Inv-loop μ-loop
 returns c = let a = c .before .before .before .before .before .before .before .before .args in let p = c .before .before .before .before .loop in (rw getD-drop at (found-here (stringsAlone (a .strings .now)) (a .n) (p .i) (a .ios .now) (a .name .now) (c .before .before .before .loop-test .taken) (sym (c .before .if1 .taken) ∙ c .before .before .io-named .ensures))) ∙ p .inv .1
 
--- src/lib.rt:105:9
 add-i : tie.Need-add-i Inv-loop μ-loop
 add-i c = search needs
 
--- src/lib.rt:101:5
 loop-less : tie.Need-loop-less Inv-loop μ-loop
 loop-less c = search needs
 
--- src/lib.rt:101:5
 loop-again : tie.Need-loop-again Inv-loop μ-loop
 loop-again c = let a = c .before .before .before .before .before .before .before .args in let p = c .before .before .before .loop in (omega arith, found-later (stringsAlone (a .strings .now)) (a .n) (p .i) (a .ios .now) (a .name .now) (c .before .before .loop-test .taken) (sym (c .if1 .left) ∙ c .before .io-named .ensures) ∙ p .inv .1)
 
--- src/lib.rt:107:20
 refused-requires : tie.Need-refused-requires Inv-loop μ-loop
 refused-requires c κs = search needs
 
--- src/lib.rt:96:1
 returns-2 : tie.Need-returns-2 Inv-loop μ-loop
 returns-2 c = let a = c .before .before .before .before .before .before .args in let p = c .before .before .loop in rw (c .refused .ensures) (found-none (stringsAlone (a .strings .now)) (a .n) (p .i) (drop (p .i * 3) (a .ios .now)) (a .name .now) (c .before .loop-test .left) ∙ p .inv .1)
 

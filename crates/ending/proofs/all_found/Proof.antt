@@ -10,27 +10,21 @@ use Rattle.regions.proofs.cells_of.Reads as cells-of-reads
 use Rattle.regions.proofs.runs_of.Reads as runs-of-reads
 use Rattle.resolving.proofs.runs_resolve.Reads as runs-resolve-reads
 
--- src/ending.rt:26:9
 returns : tie.Need-returns
 returns c = rw (c .if1 .taken)
 
--- src/ending.rt:29:9
 cell-numbers-of-requires : tie.Need-cell-numbers-of-requires
 cell-numbers-of-requires c κs = search needs
 
--- src/ending.rt:30:9
 cells-of-requires : tie.Need-cells-of-requires
 cells-of-requires c κs = search needs
 
--- src/ending.rt:31:9
 runs-of-requires : tie.Need-runs-of-requires
 runs-of-requires c κs = search needs
 
--- src/ending.rt:28:5
 runs-resolve-requires : tie.Need-runs-resolve-requires
 runs-resolve-requires c κs = let p = c .before .before .before .before .before .before in rw (c .runs-of .ensures) (record { long = part-length 14019 12288 (p .args .rows .now) (omega (arith, p .pre .0)); few = p .pre .2 })
 
--- src/ending.rt:21:1
 returns-2 : tie.Need-returns-2
 returns-2 c = let e = c .runs-resolve .ensures in rw (c .before .before .before .before .if1 .left) (rw (c .before .before .before .cell-numbers-of .ensures, c .before .before .cells-of .ensures, c .before .runs-of .ensures) at e)
 

@@ -13,36 +13,28 @@ use Rattle.regions.proofs.cells_of.Reads as cells-of-reads
 use Rattle.regions.proofs.places_of.Reads as places-of-reads
 use Rattle.resolving.proofs.first_lost.Reads as first-lost-reads
 
--- src/ending.rt:41:8
 all-found-requires : tie.Need-all-found-requires
 all-found-requires c κs = let p = c .before .before .before in (p .pre .0, p .pre .1, p .pre .3)
 
--- src/ending.rt:42:9
 returns : tie.Need-returns
 returns c = let a = c .before .before .before .before .before .args in rows-tell (a .text .now) (a .n) (a .rows .now) (a .work .now) (sym (c .before .all-found .ensures) ∙ c .if1 .taken)
 
--- src/ending.rt:47:9
 places-of-requires : tie.Need-places-of-requires
 places-of-requires c κs = search needs
 
--- src/ending.rt:48:9
 mul-first-lost : tie.Need-mul-first-lost
 mul-first-lost c = search needs
 
--- src/ending.rt:49:9
 cell-numbers-of-requires : tie.Need-cell-numbers-of-requires
 cell-numbers-of-requires c κs = search needs
 
--- src/ending.rt:50:9
 cells-of-requires : tie.Need-cells-of-requires
 cells-of-requires c κs = search needs
 
--- src/ending.rt:44:5
 first-lost-requires : tie.Need-first-lost-requires
 first-lost-requires c κs = let p = c .before .before .before .before .before .before .before .before .before in
     rw (c .before .before .before .places-of .ensures) (omega (arith, part-length 131072 1536 (p .args .work .now) (omega (arith, p .pre .1)), p .pre .2))
 
--- src/ending.rt:37:1
 returns-2 : tie.Need-returns-2
 returns-2 c = let a = c .before .before .before .before .before .before .before .before .before .before .args in let e = c .first-lost .ensures in lost-found (a .text .now) (a .n) (a .rows .now) (a .work .now) _ (rw (c .before .before .before .before .places-of .ensures, c .before .before .cell-numbers-of .ensures, c .before .cells-of .ensures) at e)
 

@@ -11,63 +11,48 @@ use Rattle.evaluating.proofs.evaluate.Lts as lts
 use Rattle.evaluating.proofs.evaluate_in.Reads as evaluate-in-reads
 use Rattle.evaluating.proofs.good.refused.Reads as refused-reads
 
--- src/lib.rt:82:9
 refused-requires : tie.Need-refused-requires
 refused-requires c κs = search needs
 
--- src/lib.rt:82:9
 returns : tie.Need-returns
 returns c = let a = c .before .before .before .before .before .before .before .before .args in rw (c .refused .ensures) (too-short (a .rows .now) (a .strings .now) (a .bits .now) (a .ins .now) (a .outs .now) (a .work .now) (or-left _ _ (rows-short (a .rows .now) (a .strings .now) (a .bits .now) (c .before .if1 .taken))))
 
--- src/lib.rt:85:9
 refused-requires-2 : tie.Need-refused-requires-2
 refused-requires-2 c κs = search needs
 
--- src/lib.rt:85:9
 returns-2 : tie.Need-returns-2
 returns-2 c = let a = c .before .before .before .before .before .before .before .before .before .args in rw (c .refused2 .ensures) (too-short (a .rows .now) (a .strings .now) (a .bits .now) (a .ins .now) (a .outs .now) (a .work .now) (or-left _ _ (strings-short (a .rows .now) (a .strings .now) (a .bits .now) (c .before .before .if1 .left) (c .before .if2 .taken))))
 
--- src/lib.rt:88:9
 refused-requires-3 : tie.Need-refused-requires-3
 refused-requires-3 c κs = search needs
 
--- src/lib.rt:88:9
 returns-3 : tie.Need-returns-3
 returns-3 c = let a = c .before .before .before .before .before .before .before .before .before .before .args in rw (c .refused3 .ensures) (too-short (a .rows .now) (a .strings .now) (a .bits .now) (a .ins .now) (a .outs .now) (a .work .now) (or-left _ _ (bits-short (a .rows .now) (a .strings .now) (a .bits .now) (c .before .before .before .if1 .left) (c .before .before .if2 .left) (c .before .if3 .taken))))
 
--- src/lib.rt:91:9
 refused-requires-4 : tie.Need-refused-requires-4
 refused-requires-4 c κs = search needs
 
--- src/lib.rt:91:9
 returns-4 : tie.Need-returns-4
 returns-4 c = let a = c .before .before .before .before .before .before .before .before .before .before .before .args in rw (c .refused4 .ensures) (too-short (a .rows .now) (a .strings .now) (a .bits .now) (a .ins .now) (a .outs .now) (a .work .now) (or-right (short (a .rows .now) (a .strings .now) (a .bits .now)) _ (lt-ltb (length (a .work .now)) 8192 (c .before .if4 .taken))))
 
--- src/lib.rt:93:49
 sub-evaluate-in : tie.Need-sub-evaluate-in
 sub-evaluate-in c = search needs
 
--- src/lib.rt:93:49
 part-evaluate-in-start : tie.Need-part-evaluate-in-start
 part-evaluate-in-start c = search needs
 
--- src/lib.rt:93:49
 part-evaluate-in-end : tie.Need-part-evaluate-in-end
 part-evaluate-in-end c = search needs
 
--- src/lib.rt:93:5
 evaluate-in-requires : tie.Need-evaluate-in-requires
 evaluate-in-requires c κs = search needs
 
--- src/lib.rt:71:1
 same-length : tie.Need-same-length
 same-length c = search needs
 
--- src/lib.rt:71:1
 same-length-2 : tie.Need-same-length-2
 same-length-2 c = search needs
 
--- src/lib.rt:71:1
 returns-5 : tie.Need-returns-5
 returns-5 c = let a = c .before .before .before .before .before .before .before .before .before .before .before .before .before .before .before .before .before .args in whole-way (a .rows .now) (a .strings .now) (a .bits .now) (a .ins .now) (a .outs .now) (a .work .now) _ _ _ (none-short (a .rows .now) (a .strings .now) (a .bits .now) (c .before .before .before .before .before .before .before .before .before .before .if1 .left) (c .before .before .before .before .before .before .before .before .before .if2 .left) (c .before .before .before .before .before .before .before .before .if3 .left)) (c .before .before .before .before .before .before .before .if4 .left) (c .before .before .before .before .evaluate-in .ensures)
 

@@ -11,36 +11,28 @@ use Rattle.regions.proofs.cells_of.Reads as cells-of-reads
 use Rattle.regions.proofs.run_trits_of.Reads as run-trits-of-reads
 use Rattle.regions.proofs.runs_of.Reads as runs-of-reads
 
--- src/lib.rt:44:9
 cells-of-requires : tie.Need-cells-of-requires
 cells-of-requires c κs = search needs
 
--- src/lib.rt:45:9
 runs-of-requires : tie.Need-runs-of-requires
 runs-of-requires c κs = search needs
 
--- src/lib.rt:46:9
 run-trits-of-requires : tie.Need-run-trits-of-requires
 run-trits-of-requires c κs = search needs
 
--- src/lib.rt:47:9
 word-of-requires : tie.Need-word-of-requires
 word-of-requires c κs = search needs
 
--- src/lib.rt:43:5
 evaluate-tables-requires : tie.Need-evaluate-tables-requires
 unfolding part
 evaluate-tables-requires c κs = let a = c .before .before .before .before .before .before .before .before .before .before .before .before .args in let p = c .before .before .before .before .before .before .before .before .before .before .before .before .pre in let q = c .before .before .word-of .ensures .0 in rw (c .before .before .before .before .before .cells-of .ensures, c .before .before .before .before .runs-of .ensures, c .before .before .before .run-trits-of .ensures) (cut-sound (a .rows .now) (a .strings .now) (a .bits .now) (p .0) (p .1) (p .2) (p .3) _ q, cut-inside (a .rows .now) (a .strings .now) (a .bits .now) (p .0) (p .1) (p .2) (p .3) _ q, p .4)
 
--- src/lib.rt:32:1
 same-length : tie.Need-same-length
 same-length c = search needs
 
--- src/lib.rt:32:1
 same-length-2 : tie.Need-same-length-2
 same-length-2 c = search needs
 
--- src/lib.rt:32:1
 returns : tie.Need-returns
 unfolding part
 returns c = let a = c .before .before .before .before .before .before .before .before .before .before .before .before .before .before .before .before .before .args in let p = c .before .before .before .before .before .before .before .before .before .before .before .before .before .before .before .before .before .pre in let e = c .before .before .before .before .evaluate-tables .ensures in cut-answer (a .rows .now) (a .strings .now) (a .bits .now) (p .0) (p .1) (p .2) (p .3) _ (c .before .before .before .before .before .before .before .word-of .ensures .0) (a .ins .now) (a .outs .now) (a .work .now) _ (rw (c .before .before .before .before .before .before .before .before .before .before .cells-of .ensures, c .before .before .before .before .before .before .before .before .before .runs-of .ensures, c .before .before .before .before .before .before .before .before .run-trits-of .ensures) at e)

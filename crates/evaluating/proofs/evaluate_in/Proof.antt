@@ -11,43 +11,33 @@ use Rattle.checking.proofs.check_tables.Reads as check-tables-reads
 use Rattle.clearing.proofs.clear_words.Reads as clear-words-reads
 use Rattle.evaluating.proofs.evaluate_good.Reads as evaluate-good-reads
 
--- src/lib.rt:63:5
 clear-words-requires : tie.Need-clear-words-requires
 clear-words-requires c κs = search needs
 
--- src/lib.rt:64:11
 check-tables-requires : tie.Need-check-tables-requires
 check-tables-requires c κs = search needs
 
--- src/lib.rt:65:26
 enum-known-g : tie.Need-enum-known-g
 enum-known-g c = search needs
 
--- src/lib.rt:66:66
 enum-told : tie.Need-enum-told
 enum-told c = search needs
 
--- src/lib.rt:66:26
 evaluate-good-requires : tie.Need-evaluate-good-requires
 evaluate-good-requires c κs = let a = c .before .before .before .before .before .before .before .before .before .before .before .before .before .before .before .args in let p = c .before .before .before .before .before .before .before .before .before .before .before .before .before .before .before .pre in let k = checked-good (a .rows .now) (a .strings .now) (a .bits .now) (sym (c .before .before .before .before .check-tables .ensures) ∙ c .before .before .enum-told .given .1) in (p .0, p .1, p .2, k .1, c .before .before .before .before .before .before .before .clear-words .ensures ∙ ap zeros (p .3))
 
--- src/lib.rt:52:1
 same-length : tie.Need-same-length
 same-length c = search needs
 
--- src/lib.rt:52:1
 returns : tie.Need-returns
 returns c = let a = c .before .before .before .before .before .before .before .before .before .before .before .before .before .before .args in let p = c .before .before .before .before .before .before .before .before .before .before .before .before .before .before .pre in not-good (a .rows .now) (a .strings .now) (a .bits .now) (a .ins .now) (a .outs .now) (a .work .now) (p .3) (none-short (a .rows .now) (a .strings .now) (a .bits .now) (p .0) (p .1) (p .2)) _ _ (c .before .before .before .before .before .before .clear-words .ensures ∙ ap zeros (p .3)) (sym (c .before .before .before .check-tables .ensures) ∙ c .before .g .given .1)
 
--- src/lib.rt:52:1
 same-length-2 : tie.Need-same-length-2
 same-length-2 c = search needs
 
--- src/lib.rt:52:1
 same-length-3 : tie.Need-same-length-3
 same-length-3 c = search needs
 
--- src/lib.rt:52:1
 returns-2 : tie.Need-returns-2
 returns-2 c = let a = c .before .before .before .before .before .before .before .before .before .before .before .before .before .before .before .before .before .before .before .before .args in let p = c .before .before .before .before .before .before .before .before .before .before .before .before .before .before .before .before .before .before .before .before .pre in let k = checked-good (a .rows .now) (a .strings .now) (a .bits .now) (sym (c .before .before .before .before .before .before .before .before .before .check-tables .ensures) ∙ c .before .before .before .before .before .before .before .enum-told .given .1) in are-good (a .rows .now) (a .strings .now) (a .bits .now) (a .ins .now) (a .outs .now) (a .work .now) (p .3) (none-short (a .rows .now) (a .strings .now) (a .bits .now) (p .0) (p .1) (p .2)) _ (k .1) (c .before .before .before .before .evaluate-good .ensures ∙ cleared-same _ (a .ins .now) (a .outs .now) _ (a .work .now) (c .before .before .before .before .before .before .before .before .before .before .before .before .clear-words .ensures ∙ ap zeros (p .3)) (p .3))
 

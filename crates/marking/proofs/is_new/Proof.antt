@@ -11,27 +11,21 @@ use Rattle.marking.proofs.is_new.Tie as tie
 use Rattle.marking.proofs.is_new.Reads as reads
 use Rattle.marking.proofs.is_new.Lts as lts
 
--- src/lib.rt:39:14
 cast-at : tie.Need-cast-at
 cast-at c = search needs
 
--- src/lib.rt:41:22
 slice-read-before : tie.Need-slice-read-before
 slice-read-before c = search needs
 
--- src/lib.rt:42:9
 slice-write-seen : tie.Need-slice-write-seen
 slice-write-seen c = search needs
 
--- src/lib.rt:43:9
 same-length : tie.Need-same-length
 same-length c = search needs
 
--- src/lib.rt:43:9
 returns : tie.Need-returns
 returns c = search needs
 
--- src/lib.rt:36:1
 returns-2 : tie.Need-returns-2
 returns-2 c =
     let a = c .before .args in

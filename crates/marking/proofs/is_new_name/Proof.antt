@@ -6,19 +6,15 @@ use Rattle.marking.proofs.is_new_name.Lts as lts
 use Rattle.marking.proofs.is_new.Reads as is-new-reads
 use Rattle.marking.proofs.mark_of.Reads as mark-of-reads
 
--- src/lib.rt:52:18
 mark-of-requires : tie.Need-mark-of-requires
 mark-of-requires c κs = search needs
 
--- src/lib.rt:52:5
 is-new-requires : tie.Need-is-new-requires
 is-new-requires c κs = search needs
 
--- src/lib.rt:49:1
 same-length : tie.Need-same-length
 same-length c = search needs
 
--- src/lib.rt:49:1
 returns : tie.Need-returns
 returns c =
     let m = c .before .before .before .mark-of .ensures in

@@ -8,47 +8,36 @@ use Rattle.marking.proofs.mark_four.Tie as tie
 use Rattle.marking.proofs.mark_four.Reads as reads
 use Rattle.marking.proofs.mark_four.Lts as lts
 
--- src/lib.rt:26:15
 mul-far : tie.Need-mul-far
 mul-far c = search needs
 
--- src/lib.rt:26:57
 mul-far-2 : tie.Need-mul-far-2
 mul-far-2 c = search needs
 
--- src/lib.rt:26:15
 add-far : tie.Need-add-far
 add-far c = search needs
 
--- src/lib.rt:27:16
 mul-near : tie.Need-mul-near
 mul-near c = search needs
 
--- src/lib.rt:27:42
 mul-near-2 : tie.Need-mul-near-2
 mul-near-2 c = search needs
 
--- src/lib.rt:27:16
 add-near : tie.Need-add-near
 add-near c = search needs
 
--- src/lib.rt:27:68
 mul-near-3 : tie.Need-mul-near-3
 mul-near-3 c = search needs
 
--- src/lib.rt:27:16
 add-near-2 : tie.Need-add-near-2
 add-near-2 c = search needs
 
--- src/lib.rt:28:7
 add-result : tie.Need-add-result
 add-result c = search needs
 
--- src/lib.rt:28:5
 cast-result : tie.Need-cast-result
 cast-result c = search needs
 
--- src/lib.rt:23:1
 returns : tie.Need-returns
 returns c = let a = c .args in
     let f = a .mark * 2388247185 % 4294967296 in

@@ -19,68 +19,52 @@ Inv-loop kind name mark₀ i₀ mark i = (i ≤ length name) × (markFrom mark (
 abbrev μ-loop : tie.MeasureT-loop
 μ-loop kind name mark₀ i₀ mark i = length name - i
 
--- src/lib.rt:48:9
 mark-kind-requires : tie.Need-mark-kind-requires Inv-loop μ-loop
 mark-kind-requires c κs = search needs
 
--- src/lib.rt:50:5
 loop-holds : tie.Need-loop-holds Inv-loop μ-loop
 unfolding markOf
 loop-holds c = (omega arith, ap (λ (m : ℕ). markFrom m (c .before .before .args .name .now)) (c .mark-kind .ensures))
 
--- src/lib.rt:50:16
 sub-loop : tie.Need-sub-loop Inv-loop μ-loop
 sub-loop c = search needs
 
--- src/lib.rt:51:32
 shared-slice-read-mark-four : tie.Need-shared-slice-read-mark-four Inv-loop μ-loop
 shared-slice-read-mark-four c = search needs
 
--- src/lib.rt:51:46
 add-mark-four : tie.Need-add-mark-four Inv-loop μ-loop
 add-mark-four c = search needs
 
--- src/lib.rt:51:41
 shared-slice-read-mark-four-2 : tie.Need-shared-slice-read-mark-four-2 Inv-loop μ-loop
 shared-slice-read-mark-four-2 c = search needs
 
--- src/lib.rt:51:59
 add-mark-four-2 : tie.Need-add-mark-four-2 Inv-loop μ-loop
 add-mark-four-2 c = search needs
 
--- src/lib.rt:51:54
 shared-slice-read-mark-four-3 : tie.Need-shared-slice-read-mark-four-3 Inv-loop μ-loop
 shared-slice-read-mark-four-3 c = search needs
 
--- src/lib.rt:51:72
 add-mark-four-3 : tie.Need-add-mark-four-3 Inv-loop μ-loop
 add-mark-four-3 c = search needs
 
--- src/lib.rt:51:67
 shared-slice-read-mark-four-4 : tie.Need-shared-slice-read-mark-four-4 Inv-loop μ-loop
 shared-slice-read-mark-four-4 c = search needs
 
--- src/lib.rt:51:9
 mark-four-requires : tie.Need-mark-four-requires Inv-loop μ-loop
 mark-four-requires c κs = search needs
 
--- src/lib.rt:52:9
 add-i : tie.Need-add-i Inv-loop μ-loop
 add-i c = search needs
 
--- src/lib.rt:50:5
 loop-less : tie.Need-loop-less Inv-loop μ-loop
 loop-less c = search needs
 
--- src/lib.rt:50:5
 loop-again : tie.Need-loop-again Inv-loop μ-loop
 loop-again c = let p = c .before .before .before .before .before .before in let a = c .before .before .before .before .before .before .before .before .before .args in let h : p .loop .i + 4 ≤ length (a .name .now) = omega arith in (h, (rw (sym (c .mark-four .ensures)) at (mark-four (a .name .now) (p .loop .mark) (p .loop .i) h)) ∙ p .loop .inv .1)
 
--- src/lib.rt:54:5
 mark-rest-requires : tie.Need-mark-rest-requires Inv-loop μ-loop
 mark-rest-requires c κs = search needs
 
--- src/lib.rt:45:1
 returns : tie.Need-returns Inv-loop μ-loop
 returns c = c .mark-rest .ensures ∙ c .before .before .loop .inv .1
 

@@ -16,31 +16,24 @@ Inv-loop start name from mark₀ i₀ mark i = markFrom mark (drop i name) ≡ m
 abbrev μ-loop : tie.MeasureT-loop
 μ-loop start name from mark₀ i₀ mark i = length name - i
 
--- src/lib.rt:37:5
 loop-holds : tie.Need-loop-holds Inv-loop μ-loop
 loop-holds c = refl
 
--- src/lib.rt:38:32
 shared-slice-read-mark-more : tie.Need-shared-slice-read-mark-more Inv-loop μ-loop
 shared-slice-read-mark-more c = search needs
 
--- src/lib.rt:38:9
 mark-more-requires : tie.Need-mark-more-requires Inv-loop μ-loop
 mark-more-requires c κs = search needs
 
--- src/lib.rt:39:9
 add-i : tie.Need-add-i Inv-loop μ-loop
 add-i c = search needs
 
--- src/lib.rt:37:5
 loop-less : tie.Need-loop-less Inv-loop μ-loop
 loop-less c = search needs
 
--- src/lib.rt:37:5
 loop-again : tie.Need-loop-again Inv-loop μ-loop
 loop-again c = let p = c .before .before .before in let a = c .before .before .before .before .before .args in (rw (sym (c .mark-more .ensures)) at (mark-on (a .name .now) (p .loop .mark) (p .loop .i) (c .before .before .loop-test .taken))) ∙ p .loop .inv
 
--- src/lib.rt:32:1
 returns : tie.Need-returns Inv-loop μ-loop
 returns c = let p = c .before in mark-end (c .before .before .before .args .name .now) (p .loop .mark) (p .loop .i) (c .loop-test .left) ∙ p .loop .inv
 

@@ -21,41 +21,33 @@ Inv-loop text kind from size mark₀ left₀ i₀ mark left i = (left ≡ length
 abbrev μ-loop : tie.MeasureT-loop
 μ-loop text kind from size mark₀ left₀ i₀ mark left i = left
 
--- src/names.rt:185:9
 mark-kind-requires : tie.Need-mark-kind-requires Inv-loop μ-loop
 mark-kind-requires c κs = search needs
 
--- src/names.rt:188:5
 loop-holds : tie.Need-loop-holds Inv-loop μ-loop
 unfolding markOf
 loop-holds c = let s = c .before .before in (s .pre, ap (λ (m : ℕ). markFrom m (decoded (s .args .text .now) (s .args .from))) (c .mark-kind .ensures))
 
--- src/names.rt:189:17
 shared-slice-read-b : tie.Need-shared-slice-read-b Inv-loop μ-loop
 shared-slice-read-b c =
     let p = c .before .before in
     meant-inside (p .before .before .before .args .text .now) (p .loop .i) (omega (arith, p .loop .inv .0, c .before .loop-test .taken))
 
--- src/names.rt:191:13
 mark-more-requires : tie.Need-mark-more-requires Inv-loop μ-loop
 mark-more-requires c κs = search needs
 
--- src/names.rt:192:13
 add-i : tie.Need-add-i Inv-loop μ-loop
 add-i c =
     let p = c .before .before .before .before in
     let h = meant-inside (p .before .before .before .args .text .now) (p .loop .i) (omega (arith, p .loop .inv .0, c .before .before .before .loop-test .taken)) in
     search (needs, h)
 
--- src/names.rt:193:13
 sub-left : tie.Need-sub-left Inv-loop μ-loop
 sub-left c = search needs
 
--- src/names.rt:188:5
 loop-less : tie.Need-loop-less Inv-loop μ-loop
 loop-less c = search needs
 
--- src/names.rt:188:5
 loop-again : tie.Need-loop-again Inv-loop μ-loop
 loop-again c =
     let p = c .before .before .before .before in
@@ -63,23 +55,18 @@ loop-again c =
     let f = raw-behind t (p .loop .i) (omega (arith, p .loop .inv .0, c .before .before .before .loop-test .taken)) (c .before .if1 .taken) in
     (tail-length (p .loop .left) _ _ _ f (p .loop .inv .0), mark-first _ _ (p .loop .mark) _ _ f (c .mark-more .ensures) ∙ p .loop .inv .1)
 
--- src/names.rt:196:13
 next-byte-requires : tie.Need-next-byte-requires Inv-loop μ-loop
 next-byte-requires c κs = let p = c .before .before .before in omega (arith, p .loop .inv .0, c .before .before .loop-test .taken)
 
--- src/names.rt:197:9
 mark-more-requires-2 : tie.Need-mark-more-requires-2 Inv-loop μ-loop
 mark-more-requires-2 c κs = search needs
 
--- src/names.rt:199:9
 sub-left-2 : tie.Need-sub-left-2 Inv-loop μ-loop
 sub-left-2 c = search needs
 
--- src/names.rt:188:5
 loop-less-2 : tie.Need-loop-less-2 Inv-loop μ-loop
 loop-less-2 c = search needs
 
--- src/names.rt:188:5
 loop-again-2 : tie.Need-loop-again-2 Inv-loop μ-loop
 loop-again-2 c =
     let p = c .before .before .before .before .before in
@@ -87,7 +74,6 @@ loop-again-2 c =
     let f = next-meant t (p .loop .i) (omega (arith, p .loop .inv .0, c .before .before .before .before .loop-test .taken)) _ (c .before .next-byte .ensures) in
     (tail-length (p .loop .left) _ _ _ f (p .loop .inv .0), mark-first _ _ (p .loop .mark) _ _ f (c .mark-more2 .ensures) ∙ p .loop .inv .1)
 
--- src/names.rt:181:1
 returns : tie.Need-returns Inv-loop μ-loop
 returns c = let p = c .before in mark-none _ _ (omega (arith, p .loop .inv .0)) ∙ p .loop .inv .1
 

@@ -10,33 +10,26 @@ use Rattle.ordering.proofs.order_rows.Reads as reads
 use Rattle.ordering.proofs.order_rows.Lts as lts
 use Rattle.placing.proofs.place.Reads as place-reads
 
--- src/good.rt:50:34
 sub-place : tie.Need-sub-place
 sub-place c = search needs
 
--- src/good.rt:50:34
 part-place-start : tie.Need-part-place-start
 part-place-start c = search needs
 
--- src/good.rt:50:34
 part-place-end : tie.Need-part-place-end
 part-place-end c = omega (arith, ap length (c .before .before .before .before .before .pre .2), length-zeros 8192)
 
--- src/good.rt:50:5
 place-requires : tie.Need-place-requires
 place-requires c κs =
     let p = c .before .before .before .before .before .before .pre in
     (p .0, p .1, marks-clear _ (p .2))
 
--- src/good.rt:46:1
 same-length : tie.Need-same-length
 same-length c = search needs
 
--- src/good.rt:46:1
 same-length-2 : tie.Need-same-length-2
 same-length-2 c = search needs
 
--- src/good.rt:46:1
 returns : tie.Need-returns
 returns c = (placed-clear (c .before .before .before .before .place .ensures), clear-again _ (c .before .before .before .before .before .before .before .before .before .before .before .args .work .now) (c .before .before .before .before .place .ensures .clear) (c .before .before .before .before .before .before .before .before .before .before .before .pre .2))
 

@@ -9,43 +9,33 @@ use Rattle.reader.proofs.cleared.Lts as lts
 use Rattle.clearing.proofs.clear_bytes.Reads as clear-bytes-reads
 use Rattle.clearing.proofs.clear_words.Reads as clear-words-reads
 
--- src/lib.rt:61:27
 enum-told : tie.Need-enum-told
 enum-told c = search needs
 
--- src/lib.rt:62:23
 enum-known-r : tie.Need-enum-known-r
 enum-known-r c = search needs
 
--- src/lib.rt:63:13
 clear-words-requires : tie.Need-clear-words-requires
 clear-words-requires c κs = search needs
 
--- src/lib.rt:64:13
 clear-bytes-requires : tie.Need-clear-bytes-requires
 clear-bytes-requires c κs = search needs
 
--- src/lib.rt:65:13
 clear-bytes-requires-2 : tie.Need-clear-bytes-requires-2
 clear-bytes-requires-2 c κs = search needs
 
--- src/lib.rt:56:1
 returns : tie.Need-returns
 returns c = clears-none (c .enum-told .given .1)
 
--- src/lib.rt:56:1
 same-length : tie.Need-same-length
 same-length c = search needs
 
--- src/lib.rt:56:1
 same-length-2 : tie.Need-same-length-2
 same-length-2 c = search needs
 
--- src/lib.rt:56:1
 same-length-3 : tie.Need-same-length-3
 same-length-3 c = search needs
 
--- src/lib.rt:56:1
 returns-2 : tie.Need-returns-2
 returns-2 c = let p = c .before .before .before .before .before .before .before .before .before .before .before .before .before .before .before .before .before .before .pre in
     clears-all _ (c .before .before .before .before .before .before .before .before .before .before .before .before .before .r .given .1) (c .before .before .before .before .before .before .before .before .before .before .clear-words .ensures ∙ ap zeros (p .0)) (c .before .before .before .before .before .before .clear-bytes .ensures ∙ ap zeros (p .1)) (c .before .before .clear-bytes2 .ensures ∙ ap zeros (p .2))

@@ -13,51 +13,40 @@ use Rattle.scanning.proofs.scan.whole.Reads as whole-reads
 use Rattle.reader.proofs.cleared.Reads as cleared-reads
 use Rattle.reader.proofs.read_sound.Reads as read-sound-reads
 
--- src/lib.rt:82:11
 whole-requires : tie.Need-whole-requires
 whole-requires c κs = search needs
 
--- src/lib.rt:83:24
 enum-known-g : tie.Need-enum-known-g
 enum-known-g c = search needs
 
--- src/lib.rt:85:21
 enum-told : tie.Need-enum-told
 enum-told c = search needs
 
--- src/lib.rt:86:17
 read-sound-requires : tie.Need-read-sound-requires
 read-sound-requires c κs = let p = c .before .before .before .before .before .before .before .before .before .before .before .before in
     (sound-short (p .args .text .now) (sym (c .before .before .before .before .before .before .whole .ensures) ∙ c .before .before .before .before .enum-told .given .1), p .pre .0, p .pre .1)
 
--- src/lib.rt:87:13
 cleared-requires : tie.Need-cleared-requires
 cleared-requires c κs = let p = c .before .before .before .before .before .before .before .before .before .before .before .before .before .before .before .before .before .before .before .before .before .before .before .before .pre in
     let k = c .before .before .before .before .before .before .before .before .before .before .before .read-sound .kept in
     (omega (arith, k, ap length (p .0 .rows), length-zeros 26307), omega (arith, k, ap length (p .1), length-zeros 16384), omega (arith, k, ap length (p .0 .bits), length-zeros 393728))
 
--- src/lib.rt:72:1
 returns : tie.Need-returns
 returns c = let p = c .before .before .before .before .before .before .before .before .before in
     rw (p .pre .0 .rows, p .pre .0 .bits, p .pre .1) (unsound-read (p .args .text .now) _ (sym (c .before .before .before .whole .ensures) ∙ c .before .g .given .1))
 
--- src/lib.rt:72:1
 same-length : tie.Need-same-length
 same-length c = search needs
 
--- src/lib.rt:72:1
 same-length-2 : tie.Need-same-length-2
 same-length-2 c = search needs
 
--- src/lib.rt:72:1
 same-length-3 : tie.Need-same-length-3
 same-length-3 c = search needs
 
--- src/lib.rt:72:1
 same-length-4 : tie.Need-same-length-4
 same-length-4 c = search needs
 
--- src/lib.rt:72:1
 returns-2 : tie.Need-returns-2
 returns-2 c = sound-read (c .before .before .before .before .before .before .before .before .before .before .before .before .before .before .before .before .before .before .before .before .before .before .before .before .before .before .before .before .before .before .before .args .text .now) (sym (c .before .before .before .before .before .before .before .before .before .before .before .before .before .before .before .before .before .before .before .before .before .before .before .before .before .whole .ensures) ∙ c .before .before .before .before .before .before .before .before .before .before .before .before .before .before .before .before .before .before .before .before .before .before .before .enum-told .given .1) (c .before .before .before .before .before .before .before .before .before .before .before .before .before .before .before .before .before .before .read-sound .ensures) (c .before .before .before .before .before .before .cleared .ensures)
 

@@ -10,48 +10,37 @@ use Rattle.clearing.proofs.clear_bytes.Reads as clear-bytes-reads
 use Rattle.clearing.proofs.clear_words.Reads as clear-words-reads
 use Rattle.reader.proofs.read_blank.Reads as read-blank-reads
 
--- src/lib.rt:103:5
 clear-words-requires : tie.Need-clear-words-requires
 clear-words-requires c κs = search needs
 
--- src/lib.rt:104:5
 clear-bytes-requires : tie.Need-clear-bytes-requires
 clear-bytes-requires c κs = search needs
 
--- src/lib.rt:105:5
 clear-bytes-requires-2 : tie.Need-clear-bytes-requires-2
 clear-bytes-requires-2 c κs = search needs
 
--- src/lib.rt:106:5
 clear-words-requires-2 : tie.Need-clear-words-requires-2
 clear-words-requires-2 c κs = search needs
 
--- src/lib.rt:107:9
 read-blank-requires : tie.Need-read-blank-requires
 read-blank-requires c κs = let p = c .before .before .before .before .before .before .before .before .before .before .before .before .before .before .before .before .before .before .before .before .before .before .before .before .before .pre in
     (record { rows = c .before .before .before .before .before .before .before .before .before .before .before .before .before .before .before .before .before .before .clear-words .ensures ∙ ap zeros (p .0); bits = c .before .before .before .before .before .before .before .before .before .before .clear-bytes2 .ensures ∙ ap zeros (p .2); work = c .before .before .before .before .before .before .clear-words2 .ensures ∙ ap zeros (p .3) }, c .before .before .before .before .before .before .before .before .before .before .before .before .before .before .clear-bytes .ensures ∙ ap zeros (p .1))
 
--- src/lib.rt:108:5
 clear-words-requires-3 : tie.Need-clear-words-requires-3
 clear-words-requires-3 c κs = search needs
 
--- src/lib.rt:93:1
 same-length : tie.Need-same-length
 same-length c = search needs
 
--- src/lib.rt:93:1
 same-length-2 : tie.Need-same-length-2
 same-length-2 c = search needs
 
--- src/lib.rt:93:1
 same-length-3 : tie.Need-same-length-3
 same-length-3 c = search needs
 
--- src/lib.rt:93:1
 same-length-4 : tie.Need-same-length-4
 same-length-4 c = search needs
 
--- src/lib.rt:93:1
 returns : tie.Need-returns
 returns c =
     let b = c .before .before .before .before .before .before .before .before .before .before .before .before .read-blank in

@@ -8,43 +8,33 @@ use Rattle.reader.proofs.read_past_bits.Lts as lts
 use Rattle.reader.proofs.read_past_work.Reads as read-past-work-reads
 use Rattle.reader.proofs.trits_end.Reads as trits-end-reads
 
--- src/lib.rt:136:9
 trits-end-requires : tie.Need-trits-end-requires
 trits-end-requires c κs = search needs
 
--- src/lib.rt:137:41
 sub-read-past-work : tie.Need-sub-read-past-work
 sub-read-past-work c = search needs
 
--- src/lib.rt:137:41
 part-read-past-work-start : tie.Need-part-read-past-work-start
 part-read-past-work-start c = search needs
 
--- src/lib.rt:137:41
 part-read-past-work-end : tie.Need-part-read-past-work-end
 part-read-past-work-end c = search needs
 
--- src/lib.rt:137:5
 read-past-work-requires : tie.Need-read-past-work-requires
 read-past-work-requires c κs = search needs
 
--- src/lib.rt:126:1
 same-length : tie.Need-same-length
 same-length c = search needs
 
--- src/lib.rt:126:1
 same-length-2 : tie.Need-same-length-2
 same-length-2 c = search needs
 
--- src/lib.rt:126:1
 same-length-3 : tie.Need-same-length-3
 same-length-3 c = search needs
 
--- src/lib.rt:126:1
 same-length-4 : tie.Need-same-length-4
 same-length-4 c = search needs
 
--- src/lib.rt:126:1
 returns : tie.Need-returns
 returns c = rw (c .before .before .before .before .before .before .before .before .before .before .before .before .before .trits-end .ensures) (ap (behindBits (c .before .before .before .before .before .before .before .before .before .before .before .before .before .before .before .before .before .before .before .args .bits .now)) (c .before .before .before .before .before .before .before .before .read-past-work .ensures))
 

@@ -7,39 +7,30 @@ use Rattle.reader.proofs.read_past_rows.Reads as reads
 use Rattle.reader.proofs.read_past_rows.Lts as lts
 use Rattle.reader.proofs.read_past_strings.Reads as read-past-strings-reads
 
--- src/lib.rt:165:29
 sub-read-past-strings : tie.Need-sub-read-past-strings
 sub-read-past-strings c = search needs
 
--- src/lib.rt:165:29
 part-read-past-strings-start : tie.Need-part-read-past-strings-start
 part-read-past-strings-start c = search needs
 
--- src/lib.rt:165:29
 part-read-past-strings-end : tie.Need-part-read-past-strings-end
 part-read-past-strings-end c = search needs
 
--- src/lib.rt:165:5
 read-past-strings-requires : tie.Need-read-past-strings-requires
 read-past-strings-requires c κs = search needs
 
--- src/lib.rt:155:1
 same-length : tie.Need-same-length
 same-length c = search needs
 
--- src/lib.rt:155:1
 same-length-2 : tie.Need-same-length-2
 same-length-2 c = search needs
 
--- src/lib.rt:155:1
 same-length-3 : tie.Need-same-length-3
 same-length-3 c = search needs
 
--- src/lib.rt:155:1
 same-length-4 : tie.Need-same-length-4
 same-length-4 c = search needs
 
--- src/lib.rt:155:1
 returns : tie.Need-returns
 returns c = ap (behindRows (c .before .before .before .before .before .before .before .before .before .before .before .before .before .before .before .before .before .before .args .rows .now)) (c .before .before .before .before .before .before .before .before .read-past-strings .ensures)
 

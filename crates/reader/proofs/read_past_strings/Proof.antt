@@ -7,39 +7,30 @@ use Rattle.reader.proofs.read_past_strings.Reads as reads
 use Rattle.reader.proofs.read_past_strings.Lts as lts
 use Rattle.reader.proofs.read_past_bits.Reads as read-past-bits-reads
 
--- src/lib.rt:151:32
 sub-read-past-bits : tie.Need-sub-read-past-bits
 sub-read-past-bits c = search needs
 
--- src/lib.rt:151:32
 part-read-past-bits-start : tie.Need-part-read-past-bits-start
 part-read-past-bits-start c = search needs
 
--- src/lib.rt:151:32
 part-read-past-bits-end : tie.Need-part-read-past-bits-end
 part-read-past-bits-end c = search needs
 
--- src/lib.rt:151:5
 read-past-bits-requires : tie.Need-read-past-bits-requires
 read-past-bits-requires c κs = search needs
 
--- src/lib.rt:141:1
 same-length : tie.Need-same-length
 same-length c = search needs
 
--- src/lib.rt:141:1
 same-length-2 : tie.Need-same-length-2
 same-length-2 c = search needs
 
--- src/lib.rt:141:1
 same-length-3 : tie.Need-same-length-3
 same-length-3 c = search needs
 
--- src/lib.rt:141:1
 same-length-4 : tie.Need-same-length-4
 same-length-4 c = search needs
 
--- src/lib.rt:141:1
 returns : tie.Need-returns
 returns c = ap (behindStrings (c .before .before .before .before .before .before .before .before .before .before .before .before .before .before .before .before .before .before .args .strings .now)) (c .before .before .before .before .before .before .before .before .read-past-bits .ensures)
 

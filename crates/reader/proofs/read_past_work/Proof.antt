@@ -8,43 +8,33 @@ use Rattle.reader.proofs.read_past_work.Lts as lts
 use Rattle.reader.proofs.read_in.Reads as read-in-reads
 use Rattle.reader.proofs.work_end.Reads as work-end-reads
 
--- src/lib.rt:121:9
 work-end-requires : tie.Need-work-end-requires
 work-end-requires c κs = search needs
 
--- src/lib.rt:122:40
 sub-read-in : tie.Need-sub-read-in
 sub-read-in c = search needs
 
--- src/lib.rt:122:40
 part-read-in-start : tie.Need-part-read-in-start
 part-read-in-start c = search needs
 
--- src/lib.rt:122:40
 part-read-in-end : tie.Need-part-read-in-end
 part-read-in-end c = search needs
 
--- src/lib.rt:122:5
 read-in-requires : tie.Need-read-in-requires
 read-in-requires c κs = search needs
 
--- src/lib.rt:111:1
 same-length : tie.Need-same-length
 same-length c = search needs
 
--- src/lib.rt:111:1
 same-length-2 : tie.Need-same-length-2
 same-length-2 c = search needs
 
--- src/lib.rt:111:1
 same-length-3 : tie.Need-same-length-3
 same-length-3 c = search needs
 
--- src/lib.rt:111:1
 same-length-4 : tie.Need-same-length-4
 same-length-4 c = search needs
 
--- src/lib.rt:111:1
 returns : tie.Need-returns
 returns c = rw (c .before .before .before .before .before .before .before .before .before .before .before .before .before .work-end .ensures) (ap (behindWork (c .before .before .before .before .before .before .before .before .before .before .before .before .before .before .before .before .before .before .before .args .work .now)) (c .before .before .before .before .before .before .before .before .read-in .ensures))
 

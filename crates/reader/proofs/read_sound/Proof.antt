@@ -7,56 +7,43 @@ use Rattle.reader.proofs.read_sound.Lts as lts
 use Rattle.declaring.proofs.declarations.declarations.Reads as declarations-reads
 use Rattle.ending.proofs.end_reading.Reads as end-reading-reads
 
--- src/lib.rt:49:11
 declarations-requires : tie.Need-declarations-requires
 declarations-requires c κs = search needs
 
--- src/lib.rt:50:23
 enum-known-g : tie.Need-enum-known-g
 enum-known-g c = search needs
 
--- src/lib.rt:51:19
 enum-known-n : tie.Need-enum-known-n
 enum-known-n c = search needs
 
--- src/lib.rt:51:25
 end-reading-requires : tie.Need-end-reading-requires
 end-reading-requires c κs = let p = c .before .before .before .before .before .before .before .before .before .before .before .before .before .before .before .before .before .before .before .before .before in
     (record { bits = _; whole = sound-all (c .before .before .before .before .before .before .before .before .before .before .before .before .declarations .ensures) _ (c .before .before .before .before .n .given .1) }, p .pre .2)
 
--- src/lib.rt:38:1
 same-length : tie.Need-same-length
 same-length c = search needs
 
--- src/lib.rt:38:1
 same-length-2 : tie.Need-same-length-2
 same-length-2 c = search needs
 
--- src/lib.rt:38:1
 same-length-3 : tie.Need-same-length-3
 same-length-3 c = search needs
 
--- src/lib.rt:38:1
 returns : tie.Need-returns
 returns c = sound-stopped (c .before .before .before .before .before .before .before .before .before .declarations .ensures) _ (c .before .g .given .1)
 
--- src/lib.rt:38:1
 same-length-4 : tie.Need-same-length-4
 same-length-4 c = search needs
 
--- src/lib.rt:38:1
 same-length-5 : tie.Need-same-length-5
 same-length-5 c = search needs
 
--- src/lib.rt:38:1
 same-length-6 : tie.Need-same-length-6
 same-length-6 c = search needs
 
--- src/lib.rt:38:1
 same-length-7 : tie.Need-same-length-7
 same-length-7 c = search needs
 
--- src/lib.rt:38:1
 returns-2 : tie.Need-returns-2
 returns-2 c = c .before .before .before .before .end-reading .ensures .of _ (sound-all (c .before .before .before .before .before .before .before .before .before .before .before .before .before .before .before .before .before .declarations .ensures) _ (c .before .before .before .before .before .before .before .before .before .n .given .1))
 

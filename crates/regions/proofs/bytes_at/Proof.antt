@@ -5,59 +5,45 @@ use Rattle.regions.proofs.bytes_at.Tie as tie
 use Rattle.regions.proofs.bytes_at.Reads as reads
 use Rattle.regions.proofs.bytes_at.Lts as lts
 
--- src/lib.rt:25:16
 sub-result : tie.Need-sub-result
 sub-result c = search needs
 
--- src/lib.rt:25:16
 part-result-start : tie.Need-part-result-start
 part-result-start c = search needs
 
--- src/lib.rt:25:16
 part-result-end : tie.Need-part-result-end
 part-result-end c = search needs
 
--- src/lib.rt:25:9
 returns : tie.Need-returns
 returns c = let a = c .before .before .args in part-past (a .s .now) (a .from) (a .size) (c .before .if1 .taken)
 
--- src/lib.rt:27:8
 sub-if2 : tie.Need-sub-if2
 sub-if2 c = search needs
 
--- src/lib.rt:28:16
 sub-result-2 : tie.Need-sub-result-2
 sub-result-2 c = search needs
 
--- src/lib.rt:28:16
 part-result-start-2 : tie.Need-part-result-start-2
 part-result-start-2 c = search needs
 
--- src/lib.rt:28:16
 part-result-end-2 : tie.Need-part-result-end-2
 part-result-end-2 c = search needs
 
--- src/lib.rt:28:9
 returns-2 : tie.Need-returns-2
 returns-2 c = let a = c .before .before .before .args in part-rest (a .s .now) (a .from) (a .size) (c .before .if2 .taken)
 
--- src/lib.rt:30:15
 add-past : tie.Need-add-past
 add-past c = search needs
 
--- src/lib.rt:31:5
 sub-result-3 : tie.Need-sub-result-3
 sub-result-3 c = search needs
 
--- src/lib.rt:31:5
 part-result-start-3 : tie.Need-part-result-start-3
 part-result-start-3 c = search needs
 
--- src/lib.rt:31:5
 part-result-end-3 : tie.Need-part-result-end-3
 part-result-end-3 c = search needs
 
--- src/lib.rt:21:1
 returns-3 : tie.Need-returns-3
 returns-3 c = let a = c .before .before .before .args in part-whole (a .s .now) (a .from) (a .size)
 

@@ -21,27 +21,21 @@ Inv-loop text map cells walk₀ walk = lostFrom map cells (partsLeft text walk) 
 abbrev μ-loop : tie.MeasureT-loop
 μ-loop text map cells walk₀ walk = mostParts walk
 
--- src/lib.rt:92:9
 operand-walk-requires : tie.Need-operand-walk-requires Inv-loop μ-loop
 operand-walk-requires c κs = search needs
 
--- src/lib.rt:93:5
 loop-holds : tie.Need-loop-holds Inv-loop μ-loop
 loop-holds c = refl
 
--- src/lib.rt:94:13
 walk-next-requires : tie.Need-walk-next-requires Inv-loop μ-loop
 walk-next-requires c κs = search needs
 
--- src/lib.rt:95:26
 enum-known-step : tie.Need-enum-known-step Inv-loop μ-loop
 enum-known-step c = search needs
 
--- src/lib.rt:96:13
 enum-told : tie.Need-enum-told Inv-loop μ-loop
 enum-told c = search needs
 
--- src/lib.rt:96:13
 returns : tie.Need-returns Inv-loop μ-loop
 returns c = let a = c .before .before .before .before .before .before .before .before .args in
     let l = c .before .before .before .loop in
@@ -49,15 +43,12 @@ returns c = let a = c .before .before .before .before .before .before .before .b
     sym (part-none (a .map .now) (a .cells .now)) ∙ ap (λ (v : _). lostFrom (a .map .now) (a .cells .now) (partsOn (a .text .now) v)) (sym e) ∙ ap (lostFrom (a .map .now) (a .cells .now)) (sym (walk-goes (a .text .now) (l .walk))) ∙ l .inv
     ∙ ap (lostFrom (a .map .now) (a .cells .now)) (ap (partsLeft (a .text .now)) (c .before .before .before .before .operand-walk .ensures) ∙ walk-starts (a .text .now) (a .operand))
 
--- src/lib.rt:98:13
 base-of-requires : tie.Need-base-of-requires Inv-loop μ-loop
 base-of-requires c κs = search needs
 
--- src/lib.rt:99:12
 is-lost-requires : tie.Need-is-lost-requires Inv-loop μ-loop
 is-lost-requires c κs = search needs
 
--- src/lib.rt:100:13
 returns-2 : tie.Need-returns-2 Inv-loop μ-loop
 returns-2 c = let a = c .before .before .before .before .before .before .before .before .before .before .before .before .args in
     let l = c .before .before .before .before .before .before .before .loop in
@@ -66,11 +57,9 @@ returns-2 c = let a = c .before .before .before .before .before .before .before 
     sym (part-stop (a .map .now) (a .cells .now) _ _ lost) ∙ ap (λ (v : _). lostFrom (a .map .now) (a .cells .now) (partsOn (a .text .now) v)) (sym e) ∙ ap (lostFrom (a .map .now) (a .cells .now)) (sym (walk-goes (a .text .now) (l .walk))) ∙ l .inv
     ∙ ap (lostFrom (a .map .now) (a .cells .now)) (ap (partsLeft (a .text .now)) (c .before .before .before .before .before .before .before .before .operand-walk .ensures) ∙ walk-starts (a .text .now) (a .operand))
 
--- src/lib.rt:93:5
 loop-less : tie.Need-loop-less Inv-loop μ-loop
 loop-less c = let a = c .before .before .before .before .before .before .before .before .before .before .before .before .args in walk-shrinks (a .text .now) (c .before .before .before .before .before .before .before .loop .walk) _ _ _ (sym (c .before .before .before .before .before .before .walk-next .ensures) ∙ c .before .before .before .before .step .given .1)
 
--- src/lib.rt:93:5
 loop-again : tie.Need-loop-again Inv-loop μ-loop
 loop-again c = let a = c .before .before .before .before .before .before .before .before .before .before .before .before .args in
     let l = c .before .before .before .before .before .before .before .loop in

@@ -6,19 +6,15 @@ use Rattle.resolving.proofs.operand_of.Tie as tie
 use Rattle.resolving.proofs.operand_of.Reads as reads
 use Rattle.resolving.proofs.operand_of.Lts as lts
 
--- src/lib.rt:110:9
 returns : tie.Need-returns
 returns c = rw (c .if1 .taken)
 
--- src/lib.rt:118:14
 sub-t3 : tie.Need-sub-t3
 sub-t3 c = search needs
 
--- src/lib.rt:118:13
 cast-t4 : tie.Need-cast-t4
 cast-t4 c = search needs
 
--- src/lib.rt:106:1
 returns-2 : tie.Need-returns-2
 returns-2 c = rw (ne-eqb _ 0 (c .if1 .left))
 

@@ -9,51 +9,39 @@ use Rattle.resolving.proofs.resolves.Reads as reads
 use Rattle.resolving.proofs.resolves.Lts as lts
 use Rattle.words.proofs.word_at.Reads as word-at-reads
 
--- src/lib.rt:55:28
 cast-word-at : tie.Need-cast-word-at
 cast-word-at c = search needs
 
--- src/lib.rt:55:15
 word-at-requires : tie.Need-word-at-requires
 word-at-requires c κs = search needs
 
--- src/lib.rt:55:15
 cast-row : tie.Need-cast-row
 cast-row c = search needs
 
--- src/lib.rt:57:9
 returns : tie.Need-returns
 returns c = rw (← c .before .word-at .ensures, lt-leb 1 _ (c .if1 .taken))
 
--- src/lib.rt:59:16
 cast-end : tie.Need-cast-end
 cast-end c = search needs
 
--- src/lib.rt:59:36
 cast-end-2 : tie.Need-cast-end-2
 cast-end-2 c = search needs
 
--- src/lib.rt:59:15
 add-end : tie.Need-add-end
 add-end c = search needs
 
--- src/lib.rt:60:28
 mul-word-at : tie.Need-mul-word-at
 mul-word-at c = search needs
 
--- src/lib.rt:60:28
 add-word-at : tie.Need-add-word-at
 add-word-at c = search needs
 
--- src/lib.rt:60:13
 word-at-requires-2 : tie.Need-word-at-requires-2
 word-at-requires-2 c κs = search needs
 
--- src/lib.rt:60:13
 cast-result : tie.Need-cast-result
 cast-result c = search needs
 
--- src/lib.rt:52:1
 returns-2 : tie.Need-returns-2
 returns-2 c = let row = c .before .before .before .before .word-at .ensures in rw (← row, le-leb 1 (c .before .before .before .before .word-at .result) (c .before .before .before .if1 .left), ← c .word-at2 .ensures)
 

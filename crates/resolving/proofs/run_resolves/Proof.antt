@@ -6,19 +6,15 @@ use Rattle.resolving.proofs.run_resolves.Reads as reads
 use Rattle.resolving.proofs.run_resolves.Lts as lts
 use Rattle.resolving.proofs.resolves.Reads as resolves-reads
 
--- src/lib.rt:68:9
 returns : tie.Need-returns
 returns c = rw (eq-eqb _ 0 (c .if1 .taken))
 
--- src/lib.rt:74:19
 sub-t7 : tie.Need-sub-t7
 sub-t7 c = search needs
 
--- src/lib.rt:70:5
 resolves-requires : tie.Need-resolves-requires
 resolves-requires c κs = search needs
 
--- src/lib.rt:64:1
 returns-2 : tie.Need-returns-2
 returns-2 c = rw (ne-eqb _ 0 (c .before .if1 .left)) (c .resolves .ensures)
 

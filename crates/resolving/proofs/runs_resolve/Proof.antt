@@ -17,69 +17,53 @@ Inv-loop map cells runs n i₀ i = (i ≤ n) × (rowsResolve map cells (n - i) (
 abbrev μ-loop : tie.MeasureT-loop
 μ-loop map cells runs n i₀ i = n - i
 
--- src/lib.rt:87:5
 loop-holds : tie.Need-loop-holds Inv-loop μ-loop
 loop-holds c = (omega arith, let z : c .before .before .before .args .n - 0 ≡ c .before .before .before .args .n = omega arith in rw z)
 
--- src/lib.rt:88:17
 mul-k : tie.Need-mul-k Inv-loop μ-loop
 mul-k c = search needs
 
--- src/lib.rt:89:37
 mul-run-resolves : tie.Need-mul-run-resolves Inv-loop μ-loop
 mul-run-resolves c = search needs
 
--- src/lib.rt:89:37
 shared-slice-read-run-resolves : tie.Need-shared-slice-read-run-resolves Inv-loop μ-loop
 shared-slice-read-run-resolves c = search needs
 
--- src/lib.rt:89:51
 add-run-resolves : tie.Need-add-run-resolves Inv-loop μ-loop
 add-run-resolves c = search needs
 
--- src/lib.rt:89:46
 mul-run-resolves-2 : tie.Need-mul-run-resolves-2 Inv-loop μ-loop
 mul-run-resolves-2 c = search needs
 
--- src/lib.rt:89:46
 shared-slice-read-run-resolves-2 : tie.Need-shared-slice-read-run-resolves-2 Inv-loop μ-loop
 shared-slice-read-run-resolves-2 c = search needs
 
--- src/lib.rt:89:64
 add-run-resolves-2 : tie.Need-add-run-resolves-2 Inv-loop μ-loop
 add-run-resolves-2 c = search needs
 
--- src/lib.rt:89:59
 mul-run-resolves-3 : tie.Need-mul-run-resolves-3 Inv-loop μ-loop
 mul-run-resolves-3 c = search needs
 
--- src/lib.rt:89:59
 shared-slice-read-run-resolves-3 : tie.Need-shared-slice-read-run-resolves-3 Inv-loop μ-loop
 shared-slice-read-run-resolves-3 c = search needs
 
--- src/lib.rt:89:12
 run-resolves-requires : tie.Need-run-resolves-requires Inv-loop μ-loop
 run-resolves-requires c κs = search needs
 
--- src/lib.rt:90:13
 add-i : tie.Need-add-i Inv-loop μ-loop
 add-i c = search needs
 
--- src/lib.rt:87:5
 loop-less : tie.Need-loop-less Inv-loop μ-loop
 loop-less c = search needs
 
--- src/lib.rt:87:5
 loop-again : tie.Need-loop-again Inv-loop μ-loop
 loop-again c = let a = c .before .before .before .before .before .before .before .before .before .before .args in let l = c .before .before .before .before .before .before .loop in
     (omega arith, rows-on (a .map .now) (a .cells .now) (a .runs .now) (a .n) (l .i) (c .before .before .before .before .before .loop-test .taken) (sym (c .before .run-resolves .ensures) ∙ c .if1 .taken) ∙ l .inv .1)
 
--- src/lib.rt:92:13
 returns : tie.Need-returns Inv-loop μ-loop
 returns c = let a = c .before .before .before .before .before .before .before .before .before .before .args in let l = c .before .before .before .before .before .before .loop in
     rows-stop (a .map .now) (a .cells .now) (a .runs .now) (a .n) (l .i) (c .before .before .before .before .before .loop-test .taken) (sym (c .before .run-resolves .ensures) ∙ c .if1 .left) ∙ l .inv .1
 
--- src/lib.rt:82:1
 returns-2 : tie.Need-returns-2 Inv-loop μ-loop
 returns-2 c = let a = c .before .before .before .before .before .args in let l = c .before .loop in
     rows-none (a .map .now) (a .cells .now) (drop (l .i * 3) (a .runs .now)) (a .n - l .i) (let h = c .loop-test .left in omega arith) ∙ l .inv .1

@@ -16,52 +16,40 @@ Inv-loop map runs₀ n i₀ runs i = (i ≤ n) × (length runs ≡ 12288) × Run
 abbrev μ-loop : tie.MeasureT-loop
 μ-loop map runs₀ n i₀ runs i = n - i
 
--- src/lib.rt:43:5
 loop-holds : tie.Need-loop-holds Inv-loop μ-loop
 loop-holds c = let a = c .before .before .args in (omega arith, c .before .before .pre .long, λ numbers rs m d. runs-start numbers rs (a .runs .now) (a .n) d)
 
--- src/lib.rt:44:17
 mul-k : tie.Need-mul-k Inv-loop μ-loop
 mul-k c = let few = c .before .before .before .before .pre .few in omega (arith, few)
 
--- src/lib.rt:45:34
 mul-row-word : tie.Need-mul-row-word Inv-loop μ-loop
 mul-row-word c = search needs
 
--- src/lib.rt:45:34
 slice-read-row-word : tie.Need-slice-read-row-word Inv-loop μ-loop
 slice-read-row-word c = let few = c .before .before .before .before .before .pre .few in let long = c .before .before .loop .inv .1 in omega (arith, few, long)
 
--- src/lib.rt:45:13
 row-word-requires : tie.Need-row-word-requires Inv-loop μ-loop
 row-word-requires c κs = search needs
 
--- src/lib.rt:46:9
 mul-runs : tie.Need-mul-runs Inv-loop μ-loop
 mul-runs c = search needs
 
--- src/lib.rt:46:9
 slice-write-runs : tie.Need-slice-write-runs Inv-loop μ-loop
 slice-write-runs c = let few = c .before .before .before .before .before .before .pre .few in let long = c .before .before .before .loop .inv .1 in omega (arith, few, long)
 
--- src/lib.rt:47:9
 add-i : tie.Need-add-i Inv-loop μ-loop
 add-i c = search needs
 
--- src/lib.rt:43:5
 loop-less : tie.Need-loop-less Inv-loop μ-loop
 loop-less c = search needs
 
--- src/lib.rt:43:5
 loop-again : tie.Need-loop-again Inv-loop μ-loop
 loop-again c = let l = c .before .before .before .loop in
     (omega arith, length-set (l .runs) _ _ ∙ l .inv .1, λ numbers rs m d. rw (c .row-word .ensures) (runs-more numbers _ m (c .before .before .before .before .before .before .args .n) (l .i) (l .runs) _ (l .inv .2 numbers rs m d) (c .before .before .loop-test .taken)))
 
--- src/lib.rt:38:1
 same-length : tie.Need-same-length Inv-loop μ-loop
 same-length c = c .before .loop .inv .1 ∙ sym (c .before .before .before .before .pre .long)
 
--- src/lib.rt:38:1
 returns : tie.Need-returns Inv-loop μ-loop
 returns c = let l = c .before .loop in λ numbers rs m d. runs-end numbers (c .before .before .before .before .args .n) (l .i) (l .runs) _ (c .loop-test .left) (l .inv .2 numbers rs m d)
 

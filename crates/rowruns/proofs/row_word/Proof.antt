@@ -6,23 +6,18 @@ use Rattle.rowruns.proofs.row_word.Reads as reads
 use Rattle.rowruns.proofs.row_word.Lts as lts
 use Rattle.words.proofs.word_at.Reads as word-at-reads
 
--- src/lib.rt:32:9
 returns : tie.Need-returns
 returns c = rw (eq-eqb _ 0 (c .if1 .taken))
 
--- src/lib.rt:34:19
 sub-word-at : tie.Need-sub-word-at
 sub-word-at c = search needs
 
--- src/lib.rt:34:18
 cast-word-at : tie.Need-cast-word-at
 cast-word-at c = search needs
 
--- src/lib.rt:34:5
 word-at-requires : tie.Need-word-at-requires
 word-at-requires c κs = search needs
 
--- src/lib.rt:28:1
 returns-2 : tie.Need-returns-2
 returns-2 c = rw (ne-eqb _ 0 (c .before .if1 .left)) (c .word-at .ensures)
 

@@ -12,42 +12,33 @@ use Rattle.settling.proofs.lay_string.Lts as lts
 use Rattle.decoding.proofs.fill.Reads as fill-reads
 use Rattle.words.proofs.wide.Reads as wide-reads
 
--- src/lib.rt:37:9
 returns : tie.Need-returns
 returns c =
     let a = c .before .before .before .args in
     let z = c .if1 .taken in
     (omega (arith, z), rw (spelled-none (a .text .now) (a .at) (a .size) z))
 
--- src/lib.rt:39:19
 wide-requires : tie.Need-wide-requires
 wide-requires c κs = search needs
 
--- src/lib.rt:39:15
 add-end : tie.Need-add-end
 add-end c = search needs
 
--- src/lib.rt:40:16
 wide-requires-2 : tie.Need-wide-requires-2
 wide-requires-2 c κs = search needs
 
--- src/lib.rt:40:26
 wide-requires-3 : tie.Need-wide-requires-3
 wide-requires-3 c κs = search needs
 
--- src/lib.rt:40:38
 sub-fill : tie.Need-sub-fill
 sub-fill c = search needs
 
--- src/lib.rt:40:38
 part-fill-start : tie.Need-part-fill-start
 part-fill-start c = search needs
 
--- src/lib.rt:40:38
 part-fill-end : tie.Need-part-fill-end
 part-fill-end c = search needs
 
--- src/lib.rt:40:5
 fill-requires : tie.Need-fill-requires
 fill-requires c κs =
     let p = c .before .before .before .before .before .before .before in
@@ -55,11 +46,9 @@ fill-requires c κs =
     c .before .wide3 .ensures .0 ∙ p .pre .0 ∙ ap length (spelled-some (a .text .now) (a .at) (a .size) (c .before .before .before .before .if1 .left))
     ∙ ap (λ (k : ℕ). length (decoded (a .text .now) k)) (sym (c .before .before .wide2 .ensures .0))
 
--- src/lib.rt:32:1
 same-length : tie.Need-same-length
 same-length c = search needs
 
--- src/lib.rt:32:1
 returns-2 : tie.Need-returns-2
 returns-2 c =
     let p = c .before .before .before .before .before .before .before .before .before .before in

@@ -10,79 +10,60 @@ use Rattle.settling.proofs.lay_string.Reads as lay-string-reads
 use Rattle.words.proofs.wide.Reads as wide-reads
 use Rattle.settling.proofs.word.Reads as word-reads
 
--- src/lib.rt:124:32
 slice-read-lay-string : tie.Need-slice-read-lay-string
 slice-read-lay-string c = search needs
 
--- src/lib.rt:124:40
 slice-read-lay-string-2 : tie.Need-slice-read-lay-string-2
 slice-read-lay-string-2 c = search needs
 
--- src/lib.rt:124:9
 lay-string-requires : tie.Need-lay-string-requires
 lay-string-requires c κs = search needs
 
--- src/lib.rt:127:27
 slice-read-wide : tie.Need-slice-read-wide
 slice-read-wide c = search needs
 
--- src/lib.rt:127:22
 wide-requires : tie.Need-wide-requires
 wide-requires c κs = search needs
 
--- src/lib.rt:127:15
 add-t17 : tie.Need-add-t17
 add-t17 c = search needs
 
--- src/lib.rt:127:42
 slice-read-wide-2 : tie.Need-slice-read-wide-2
 slice-read-wide-2 c = search needs
 
--- src/lib.rt:127:37
 wide-requires-2 : tie.Need-wide-requires-2
 wide-requires-2 c κs = search needs
 
--- src/lib.rt:127:15
 add-t20 : tie.Need-add-t20
 add-t20 c = search needs
 
--- src/lib.rt:127:57
 slice-read-wide-3 : tie.Need-slice-read-wide-3
 slice-read-wide-3 c = search needs
 
--- src/lib.rt:127:52
 wide-requires-3 : tie.Need-wide-requires-3
 wide-requires-3 c κs = search needs
 
--- src/lib.rt:127:15
 add-t24 : tie.Need-add-t24
 add-t24 c = search needs
 
--- src/lib.rt:129:14
 word-requires : tie.Need-word-requires
 word-requires c κs = search needs
 
--- src/lib.rt:129:5
 slice-write-row : tie.Need-slice-write-row
 slice-write-row c = search needs
 
--- src/lib.rt:130:14
 word-requires-2 : tie.Need-word-requires-2
 word-requires-2 c κs = search needs
 
--- src/lib.rt:130:5
 slice-write-row-2 : tie.Need-slice-write-row-2
 slice-write-row-2 c = simp length-set (omega arith)
 
--- src/lib.rt:118:1
 same-length : tie.Need-same-length
 same-length c = search needs
 
--- src/lib.rt:118:1
 same-length-2 : tie.Need-same-length-2
 same-length-2 c = search needs
 
--- src/lib.rt:118:1
 returns : tie.Need-returns
 returns c = (
   rw (c .word2 .ensures, c .before .word .ensures),

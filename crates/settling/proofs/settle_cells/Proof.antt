@@ -16,36 +16,28 @@ Inv-loop text cells₀ n strings₀ first so₀ i₀ cells strings so i = (i ≤
 abbrev μ-loop : tie.MeasureT-loop
 μ-loop text cells₀ n strings₀ first so₀ i₀ cells strings so i = n - i
 
--- src/lib.rt:144:5
 loop-holds : tie.Need-loop-holds Inv-loop μ-loop
 loop-holds c = let a = c .before .before .before .args in
     (omega arith, refl, refl, λ ns d. cells-start (a .text .now) ns (a .first) (a .n) (a .cells .now) (a .strings .now) _ refl refl d)
 
--- src/lib.rt:145:17
 mul-k : tie.Need-mul-k Inv-loop μ-loop
 mul-k c = let g = c .before .before .before .before .before .pre .0 in let few = g .noted .few in let p = c .before .before .before .before .before .args in let long = noted-long (p .text .now) (g .notes) (p .n) (p .first) (p .cells .now) (g .noted) in omega (arith, few)
 
--- src/lib.rt:146:46
 add-settle-cell : tie.Need-add-settle-cell Inv-loop μ-loop
 add-settle-cell c = let g = c .before .before .before .before .before .pre .0 in let few = g .noted .few in let p = c .before .before .before .before .before .args in let long = noted-long (p .text .now) (g .notes) (p .n) (p .first) (p .cells .now) (g .noted) in omega (arith, few)
 
--- src/lib.rt:146:32
 mul-settle-cell : tie.Need-mul-settle-cell Inv-loop μ-loop
 mul-settle-cell c = let g = c .before .before .before .before .before .pre .0 in let few = g .noted .few in let p = c .before .before .before .before .before .args in let long = noted-long (p .text .now) (g .notes) (p .n) (p .first) (p .cells .now) (g .noted) in omega (arith, few, long)
 
--- src/lib.rt:146:32
 sub-settle-cell : tie.Need-sub-settle-cell Inv-loop μ-loop
 sub-settle-cell c = let g = c .before .before .before .before .before .pre .0 in let few = g .noted .few in let p = c .before .before .before .before .before .args in let long = noted-long (p .text .now) (g .notes) (p .n) (p .first) (p .cells .now) (g .noted) in omega (arith, few, long)
 
--- src/lib.rt:146:32
 part-settle-cell-start : tie.Need-part-settle-cell-start Inv-loop μ-loop
 part-settle-cell-start c = search needs
 
--- src/lib.rt:146:32
 part-settle-cell-end : tie.Need-part-settle-cell-end Inv-loop μ-loop
 part-settle-cell-end c = let g = c .before .before .before .before .before .pre .0 in let few = g .noted .few in let p = c .before .before .before .before .before .args in let long = noted-long (p .text .now) (g .notes) (p .n) (p .first) (p .cells .now) (g .noted) in let same = c .before .loop .inv .1 in omega (arith, few, long, same)
 
--- src/lib.rt:146:9
 settle-cell-requires : tie.Need-settle-cell-requires Inv-loop μ-loop
 settle-cell-requires c κs = let g = c .before .before .before .before .before .before .before .pre .0 in
     let a = c .before .before .before .before .before .before .before .args in
@@ -53,15 +45,12 @@ settle-cell-requires c κs = let g = c .before .before .before .before .before .
     let w : (l .i * 9 + 9) - l .i * 9 ≡ 9 = omega arith in
     rw w (cells-here (a .text .now) (g .notes) (a .first) (a .strings .now) (a .n) (l .i) (l .cells) (l .strings) (l .so) (c .before .before .loop-test .taken) (g .noted .strings) (g .noted .runs) (l .inv .2 ∙ c .before .before .before .before .before .before .before .pre .1) (l .inv .3 (g .notes) (g .noted)))
 
--- src/lib.rt:147:9
 add-i : tie.Need-add-i Inv-loop μ-loop
 add-i c = search needs
 
--- src/lib.rt:144:5
 loop-less : tie.Need-loop-less Inv-loop μ-loop
 loop-less c = search needs
 
--- src/lib.rt:144:5
 loop-again : tie.Need-loop-again Inv-loop μ-loop
 loop-again c = let a = c .before .before .before .before .before .before .before .before .before .before .before .before .args in
     let l = c .before .before .before .before .before .before .before .before .loop in
@@ -73,15 +62,12 @@ loop-again c = let a = c .before .before .before .before .before .before .before
       λ ns d. rw (m .ensures .0, m .ensures .1, m .ensures .2) (cells-more (a .text .now) ns (a .first) (a .strings .now) (a .n) (l .i) (l .cells) (l .strings) (l .so) (c .before .before .before .before .before .before .before .loop-test .taken) (l .inv .3 ns d) _ w),
     )
 
--- src/lib.rt:135:1
 same-length : tie.Need-same-length Inv-loop μ-loop
 same-length c = c .before .loop .inv .1
 
--- src/lib.rt:135:1
 same-length-2 : tie.Need-same-length-2 Inv-loop μ-loop
 same-length-2 c = c .before .loop .inv .2
 
--- src/lib.rt:135:1
 returns : tie.Need-returns Inv-loop μ-loop
 returns c = let a = c .before .before .before .before .before .args in
     let l = c .before .loop in

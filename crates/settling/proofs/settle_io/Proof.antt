@@ -7,35 +7,27 @@ use Rattle.settling.proofs.settle_io.Lts as lts
 use Rattle.settling.proofs.lay_string.Reads as lay-string-reads
 use Rattle.settling.proofs.word.Reads as word-reads
 
--- src/lib.rt:97:32
 slice-read-lay-string : tie.Need-slice-read-lay-string
 slice-read-lay-string c = search needs
 
--- src/lib.rt:97:40
 slice-read-lay-string-2 : tie.Need-slice-read-lay-string-2
 slice-read-lay-string-2 c = search needs
 
--- src/lib.rt:97:9
 lay-string-requires : tie.Need-lay-string-requires
 lay-string-requires c κs = search needs
 
--- src/lib.rt:98:14
 word-requires : tie.Need-word-requires
 word-requires c κs = search needs
 
--- src/lib.rt:98:5
 slice-write-row : tie.Need-slice-write-row
 slice-write-row c = search needs
 
--- src/lib.rt:93:1
 same-length : tie.Need-same-length
 same-length c = search needs
 
--- src/lib.rt:93:1
 same-length-2 : tie.Need-same-length-2
 same-length-2 c = search needs
 
--- src/lib.rt:93:1
 returns : tie.Need-returns
 returns c = (rw (c .word .ensures), c .before .before .before .lay-string .ensures .1, c .before .before .before .lay-string .ensures .0)
 

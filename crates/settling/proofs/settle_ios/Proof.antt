@@ -16,36 +16,28 @@ Inv-loop text ios₀ n strings₀ first s₀ i₀ ios strings s i = (i ≤ n) ×
 abbrev μ-loop : tie.MeasureT-loop
 μ-loop text ios₀ n strings₀ first s₀ i₀ ios strings s i = n - i
 
--- src/lib.rt:109:5
 loop-holds : tie.Need-loop-holds Inv-loop μ-loop
 loop-holds c = let a = c .before .before .before .args in
     (omega arith, refl, refl, λ ns d. ios-start (a .text .now) ns (a .first) (a .n) (a .ios .now) (a .strings .now) d)
 
--- src/lib.rt:110:17
 mul-k : tie.Need-mul-k Inv-loop μ-loop
 mul-k c = let g = c .before .before .before .before .before .pre .0 in let few = g .noted .few in let p = c .before .before .before .before .before .args in let long = noted-long (p .text .now) (g .notes) (p .n) (p .first) (p .ios .now) (g .noted) in omega (arith, few)
 
--- src/lib.rt:111:41
 add-settle-io : tie.Need-add-settle-io Inv-loop μ-loop
 add-settle-io c = let g = c .before .before .before .before .before .pre .0 in let few = g .noted .few in let p = c .before .before .before .before .before .args in let long = noted-long (p .text .now) (g .notes) (p .n) (p .first) (p .ios .now) (g .noted) in omega (arith, few)
 
--- src/lib.rt:111:29
 mul-settle-io : tie.Need-mul-settle-io Inv-loop μ-loop
 mul-settle-io c = let g = c .before .before .before .before .before .pre .0 in let few = g .noted .few in let p = c .before .before .before .before .before .args in let long = noted-long (p .text .now) (g .notes) (p .n) (p .first) (p .ios .now) (g .noted) in omega (arith, few, long)
 
--- src/lib.rt:111:29
 sub-settle-io : tie.Need-sub-settle-io Inv-loop μ-loop
 sub-settle-io c = let g = c .before .before .before .before .before .pre .0 in let few = g .noted .few in let p = c .before .before .before .before .before .args in let long = noted-long (p .text .now) (g .notes) (p .n) (p .first) (p .ios .now) (g .noted) in omega (arith, few, long)
 
--- src/lib.rt:111:29
 part-settle-io-start : tie.Need-part-settle-io-start Inv-loop μ-loop
 part-settle-io-start c = search needs
 
--- src/lib.rt:111:29
 part-settle-io-end : tie.Need-part-settle-io-end Inv-loop μ-loop
 part-settle-io-end c = let g = c .before .before .before .before .before .pre .0 in let few = g .noted .few in let p = c .before .before .before .before .before .args in let long = noted-long (p .text .now) (g .notes) (p .n) (p .first) (p .ios .now) (g .noted) in let same = c .before .loop .inv .1 in omega (arith, few, long, same)
 
--- src/lib.rt:111:9
 settle-io-requires : tie.Need-settle-io-requires Inv-loop μ-loop
 settle-io-requires c κs = let g = c .before .before .before .before .before .before .before .pre .0 in
     let a = c .before .before .before .before .before .before .before .args in
@@ -53,15 +45,12 @@ settle-io-requires c κs = let g = c .before .before .before .before .before .be
     let w : (l .i * 3 + 3) - l .i * 3 ≡ 3 = omega arith in
     rw w (ios-here (a .text .now) (g .notes) (a .first) (a .strings .now) (a .n) (l .i) (l .ios) (l .strings) (l .s) (c .before .before .loop-test .taken) (g .noted .strings) (l .inv .2 ∙ c .before .before .before .before .before .before .before .pre .1) (l .inv .3 (g .notes) (g .noted)))
 
--- src/lib.rt:112:9
 add-i : tie.Need-add-i Inv-loop μ-loop
 add-i c = search needs
 
--- src/lib.rt:109:5
 loop-less : tie.Need-loop-less Inv-loop μ-loop
 loop-less c = search needs
 
--- src/lib.rt:109:5
 loop-again : tie.Need-loop-again Inv-loop μ-loop
 loop-again c = let a = c .before .before .before .before .before .before .before .before .before .before .before .before .args in
     let l = c .before .before .before .before .before .before .before .before .loop in
@@ -73,15 +62,12 @@ loop-again c = let a = c .before .before .before .before .before .before .before
       λ ns d. rw (m .ensures .0, m .ensures .1, m .ensures .2) (ios-more (a .text .now) ns (a .first) (a .strings .now) (a .n) (l .i) (l .ios) (l .strings) (l .s) (c .before .before .before .before .before .before .before .loop-test .taken) (l .inv .3 ns d) _ w),
     )
 
--- src/lib.rt:103:1
 same-length : tie.Need-same-length Inv-loop μ-loop
 same-length c = c .before .loop .inv .1
 
--- src/lib.rt:103:1
 same-length-2 : tie.Need-same-length-2 Inv-loop μ-loop
 same-length-2 c = c .before .loop .inv .2
 
--- src/lib.rt:103:1
 returns : tie.Need-returns Inv-loop μ-loop
 returns c = let a = c .before .before .before .before .before .args in
     let l = c .before .loop in

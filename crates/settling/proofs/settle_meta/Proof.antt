@@ -10,95 +10,72 @@ use Rattle.settling.proofs.lay_string.Reads as lay-string-reads
 use Rattle.words.proofs.wide.Reads as wide-reads
 use Rattle.settling.proofs.word.Reads as word-reads
 
--- src/lib.rt:51:35
 slice-read-lay-string : tie.Need-slice-read-lay-string
 slice-read-lay-string c = search needs
 
--- src/lib.rt:51:43
 slice-read-lay-string-2 : tie.Need-slice-read-lay-string-2
 slice-read-lay-string-2 c = search needs
 
--- src/lib.rt:51:9
 lay-string-requires : tie.Need-lay-string-requires
 lay-string-requires c κs = search needs
 
--- src/lib.rt:52:32
 slice-read-lay-string-3 : tie.Need-slice-read-lay-string-3
 slice-read-lay-string-3 c = search needs
 
--- src/lib.rt:52:40
 slice-read-lay-string-4 : tie.Need-slice-read-lay-string-4
 slice-read-lay-string-4 c = search needs
 
--- src/lib.rt:52:9
 lay-string-requires-2 : tie.Need-lay-string-requires-2
 lay-string-requires-2 c κs = search needs
 
--- src/lib.rt:57:33
 slice-read-wide : tie.Need-slice-read-wide
 slice-read-wide c = search needs
 
--- src/lib.rt:57:28
 wide-requires : tie.Need-wide-requires
 wide-requires c κs = search needs
 
--- src/lib.rt:57:18
 add-t23 : tie.Need-add-t23
 add-t23 c = search needs
 
--- src/lib.rt:58:29
 slice-read-wide-2 : tie.Need-slice-read-wide-2
 slice-read-wide-2 c = search needs
 
--- src/lib.rt:58:24
 wide-requires-2 : tie.Need-wide-requires-2
 wide-requires-2 c κs = search needs
 
--- src/lib.rt:58:16
 add-t26 : tie.Need-add-t26
 add-t26 c = search needs
 
--- src/lib.rt:60:14
 word-requires : tie.Need-word-requires
 word-requires c κs = search needs
 
--- src/lib.rt:60:5
 slice-write-row : tie.Need-slice-write-row
 slice-write-row c = search needs
 
--- src/lib.rt:61:14
 word-requires-2 : tie.Need-word-requires-2
 word-requires-2 c κs = search needs
 
--- src/lib.rt:61:5
 slice-write-row-2 : tie.Need-slice-write-row-2
 slice-write-row-2 c = simp length-set (omega arith)
 
--- src/lib.rt:62:14
 word-requires-3 : tie.Need-word-requires-3
 word-requires-3 c κs = search needs
 
--- src/lib.rt:62:5
 slice-write-row-3 : tie.Need-slice-write-row-3
 slice-write-row-3 c = simp length-set (omega arith)
 
--- src/lib.rt:63:14
 word-requires-4 : tie.Need-word-requires-4
 word-requires-4 c κs = search needs
 
--- src/lib.rt:63:5
 slice-write-row-4 : tie.Need-slice-write-row-4
 slice-write-row-4 c = simp length-set (omega arith)
 
--- src/lib.rt:46:1
 same-length : tie.Need-same-length
 same-length c = search needs
 
--- src/lib.rt:46:1
 same-length-2 : tie.Need-same-length-2
 same-length-2 c = search needs
 
--- src/lib.rt:46:1
 returns : tie.Need-returns
 returns c =
     let first = c .before .before .before .before .before .before .before .before .before .before .before .before .before .before .before .before .lay-string in

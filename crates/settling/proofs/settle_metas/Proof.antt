@@ -16,36 +16,28 @@ Inv-loop text metas₀ n strings₀ so₀ i₀ metas strings so i = (i ≤ n) ×
 abbrev μ-loop : tie.MeasureT-loop
 μ-loop text metas₀ n strings₀ so₀ i₀ metas strings so i = n - i
 
--- src/lib.rt:78:5
 loop-holds : tie.Need-loop-holds Inv-loop μ-loop
 loop-holds c = let a = c .before .before .before .args in
     (omega arith, refl, refl, λ ns d. metas-start (a .text .now) ns (a .n) (a .metas .now) (a .strings .now) _ refl refl refl d)
 
--- src/lib.rt:79:17
 mul-k : tie.Need-mul-k Inv-loop μ-loop
 mul-k c = let g = c .before .before .before .before .before .pre .0 in let few = g .noted .few in let p = c .before .before .before .before .before .args in let long = noted-long (p .text .now) (g .notes) (p .n) (p .metas .now) (g .noted) in omega (arith, few)
 
--- src/lib.rt:80:46
 add-settle-meta : tie.Need-add-settle-meta Inv-loop μ-loop
 add-settle-meta c = let g = c .before .before .before .before .before .pre .0 in let few = g .noted .few in let p = c .before .before .before .before .before .args in let long = noted-long (p .text .now) (g .notes) (p .n) (p .metas .now) (g .noted) in omega (arith, few)
 
--- src/lib.rt:80:32
 mul-settle-meta : tie.Need-mul-settle-meta Inv-loop μ-loop
 mul-settle-meta c = let g = c .before .before .before .before .before .pre .0 in let few = g .noted .few in let p = c .before .before .before .before .before .args in let long = noted-long (p .text .now) (g .notes) (p .n) (p .metas .now) (g .noted) in omega (arith, few, long)
 
--- src/lib.rt:80:32
 sub-settle-meta : tie.Need-sub-settle-meta Inv-loop μ-loop
 sub-settle-meta c = let g = c .before .before .before .before .before .pre .0 in let few = g .noted .few in let p = c .before .before .before .before .before .args in let long = noted-long (p .text .now) (g .notes) (p .n) (p .metas .now) (g .noted) in omega (arith, few, long)
 
--- src/lib.rt:80:32
 part-settle-meta-start : tie.Need-part-settle-meta-start Inv-loop μ-loop
 part-settle-meta-start c = search needs
 
--- src/lib.rt:80:32
 part-settle-meta-end : tie.Need-part-settle-meta-end Inv-loop μ-loop
 part-settle-meta-end c = let g = c .before .before .before .before .before .pre .0 in let few = g .noted .few in let p = c .before .before .before .before .before .args in let long = noted-long (p .text .now) (g .notes) (p .n) (p .metas .now) (g .noted) in let same = c .before .loop .inv .1 in omega (arith, few, long, same)
 
--- src/lib.rt:80:9
 settle-meta-requires : tie.Need-settle-meta-requires Inv-loop μ-loop
 settle-meta-requires c κs = let g = c .before .before .before .before .before .before .before .pre .0 in
     let a = c .before .before .before .before .before .before .before .args in
@@ -53,15 +45,12 @@ settle-meta-requires c κs = let g = c .before .before .before .before .before .
     let w : (l .i * 16 + 16) - l .i * 16 ≡ 16 = omega arith in
     rw w (metas-here (a .text .now) (g .notes) (a .strings .now) (a .n) (l .i) (l .metas) (l .strings) (l .so) (limits (a .text .now) (g .notes) (a .n) (a .metas .now) (g .noted)) (l .inv .2 ∙ c .before .before .before .before .before .before .before .pre .1) (c .before .before .loop-test .taken) (l .inv .3 (g .notes) (g .noted)))
 
--- src/lib.rt:81:9
 add-i : tie.Need-add-i Inv-loop μ-loop
 add-i c = search needs
 
--- src/lib.rt:78:5
 loop-less : tie.Need-loop-less Inv-loop μ-loop
 loop-less c = search needs
 
--- src/lib.rt:78:5
 loop-again : tie.Need-loop-again Inv-loop μ-loop
 loop-again c = let a = c .before .before .before .before .before .before .before .before .before .before .before .before .args in
     let l = c .before .before .before .before .before .before .before .before .loop in
@@ -73,15 +62,12 @@ loop-again c = let a = c .before .before .before .before .before .before .before
       λ ns d. rw (m .ensures .0, m .ensures .1, m .ensures .2) (metas-more (a .text .now) ns (a .strings .now) (a .n) (l .i) (l .metas) (l .strings) (l .so) (c .before .before .before .before .before .before .before .loop-test .taken) (l .inv .3 ns d) _ w),
     )
 
--- src/lib.rt:68:1
 same-length : tie.Need-same-length Inv-loop μ-loop
 same-length c = c .before .loop .inv .1
 
--- src/lib.rt:68:1
 same-length-2 : tie.Need-same-length-2 Inv-loop μ-loop
 same-length-2 c = c .before .loop .inv .2
 
--- src/lib.rt:68:1
 returns : tie.Need-returns Inv-loop μ-loop
 returns c = let a = c .before .before .before .before .before .args in
     let l = c .before .loop in

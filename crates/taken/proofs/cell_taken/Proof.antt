@@ -7,17 +7,14 @@ use Rattle.taken.proofs.cell_taken.Reads as reads
 use Rattle.taken.proofs.cell_taken.Lts as lts
 use Rattle.taken.proofs.cell_found.Reads as cell-found-reads
 
--- src/names.rt:175:9
 returns : tie.Need-returns
 returns c = let s = c .before .before .before in
     let a = s .args in
     λ ns r l sp. sym (s .pre .2 .none (c .if1 .taken)) ∙ cell-found (a .text .now) (a .cells .now) (a .n) (a .kind) (a .from) (a .size) (s .pre .1) ns r l sp
 
--- src/names.rt:177:5
 cell-found-requires : tie.Need-cell-found-requires
 cell-found-requires c κs = search needs
 
--- src/names.rt:162:1
 returns-2 : tie.Need-returns-2
 returns-2 c = search needs
 

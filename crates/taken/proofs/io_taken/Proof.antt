@@ -7,17 +7,14 @@ use Rattle.taken.proofs.io_taken.Reads as reads
 use Rattle.taken.proofs.io_taken.Lts as lts
 use Rattle.taken.proofs.io_found.Reads as io-found-reads
 
--- src/names.rt:110:9
 returns : tie.Need-returns
 returns c = let s = c .before .before .before in
     let a = s .args in
     λ ns r l sp. sym (s .pre .2 .none (c .if1 .taken)) ∙ io-found (a .text .now) (a .ios .now) (a .n) (a .from) (a .size) (s .pre .1) ns r l sp
 
--- src/names.rt:112:5
 io-found-requires : tie.Need-io-found-requires
 io-found-requires c κs = search needs
 
--- src/names.rt:98:1
 returns-2 : tie.Need-returns-2
 returns-2 c = search needs
 

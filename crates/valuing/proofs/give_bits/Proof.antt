@@ -8,39 +8,30 @@ use Rattle.valuing.proofs.give_bits.Lts as lts
 use Rattle.gathering.proofs.bits.gather.Reads as gather-reads
 use Rattle.valuing.proofs.word_in.Reads as word-in-reads
 
--- src/lib.rt:143:9
 word-in-requires : tie.Need-word-in-requires
 word-in-requires c κs = search needs
 
--- src/lib.rt:144:9
 word-in-requires-2 : tie.Need-word-in-requires-2
 word-in-requires-2 c κs = search needs
 
--- src/lib.rt:146:61
 sub-gather : tie.Need-sub-gather
 sub-gather c = search needs
 
--- src/lib.rt:146:61
 part-gather-start : tie.Need-part-gather-start
 part-gather-start c = search needs
 
--- src/lib.rt:146:61
 part-gather-end : tie.Need-part-gather-end
 part-gather-end c = search needs
 
--- src/lib.rt:146:9
 gather-requires : tie.Need-gather-requires
 gather-requires c κs = search needs
 
--- src/lib.rt:147:5
 add-result : tie.Need-add-result
 add-result c = let a = c .before .before .before .before .before .before .before .before .before .before .before .before .args in omega (arith, given-room (Rattle.cells.specs.Held.heldBits (a .starts .now) (a .values .now)) (Rattle.cells.specs.Held.heldRuns (a .runs .now) (a .trits .now)) _ _ _ _ (c .before .before .before .before .before .word-in .ensures .0) (c .before .before .before .before .word-in2 .ensures .0) (a .answer .now) _ _ _ _ (c .before .before .before .before .before .before .before .before .before .before .before .before .pre .2) (c .before .before .gather .ensures), c .before .before .before .before .before .before .before .before .before .before .before .before .good .1 .1 .1 .1 .1 .1 .0 .1)
 
--- src/lib.rt:130:1
 same-length : tie.Need-same-length
 same-length c = search needs
 
--- src/lib.rt:130:1
 returns : tie.Need-returns
 returns c = let a = c .before .before .before .before .before .before .before .before .before .before .before .before .args in given-bits (Rattle.cells.specs.Held.heldBits (a .starts .now) (a .values .now)) (Rattle.cells.specs.Held.heldRuns (a .runs .now) (a .trits .now)) _ _ _ _ (c .before .before .before .before .before .word-in .ensures .0) (c .before .before .before .before .word-in2 .ensures .0) (a .answer .now) _ _ _ (c .before .before .before .before .before .before .before .before .before .before .before .before .pre .2) (c .before .before .gather .ensures)
 

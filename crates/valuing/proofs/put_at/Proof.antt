@@ -6,27 +6,21 @@ use Rattle.valuing.proofs.put_at.Reads as reads
 use Rattle.valuing.proofs.put_at.Lts as lts
 use Rattle.cellvalues.proofs.value.put_value.Reads as put-value-reads
 
--- src/lib.rt:47:30
 sub-put-value : tie.Need-sub-put-value
 sub-put-value c = search needs
 
--- src/lib.rt:47:30
 part-put-value-start : tie.Need-part-put-value-start
 part-put-value-start c = search needs
 
--- src/lib.rt:47:30
 part-put-value-end : tie.Need-part-put-value-end
 part-put-value-end c = search needs
 
--- src/lib.rt:47:5
 put-value-requires : tie.Need-put-value-requires
 put-value-requires c κs = search needs
 
--- src/lib.rt:43:1
 same-length : tie.Need-same-length
 same-length c = search needs
 
--- src/lib.rt:43:1
 returns : tie.Need-returns
 returns c = placed-back (c .before .before .before .before .before .before .before .before .args .values .now) _ _ (c .before .before .before .before .before .before .before .before .args .start) (c .before .before .before .before .before .before .before .before .args .end) (c .before .before .before .before .before .before .before .before .pre .0) (c .before .before .before .before .before .before .before .before .pre .1) (c .before .before .put-value .ensures)
 

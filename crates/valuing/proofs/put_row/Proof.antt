@@ -8,39 +8,30 @@ use Rattle.pools.proofs.word_of.Reads as word-of-reads
 use Rattle.valuing.proofs.put_at.Reads as put-at-reads
 use Rattle.valuing.proofs.word_in.Reads as word-in-reads
 
--- src/lib.rt:64:9
 word-of-requires : tie.Need-word-of-requires
 word-of-requires c κs = search needs
 
--- src/lib.rt:65:23
 word-in-requires : tie.Need-word-in-requires
 word-in-requires c κs = search needs
 
--- src/lib.rt:65:15
 add-end : tie.Need-add-end
 add-end c = search needs
 
--- src/lib.rt:66:18
 mul-put-at : tie.Need-mul-put-at
 mul-put-at c = search needs
 
--- src/lib.rt:66:12
 mul-put-at-2 : tie.Need-mul-put-at-2
 mul-put-at-2 c = search needs
 
--- src/lib.rt:66:12
 shared-slice-read-put-at : tie.Need-shared-slice-read-put-at
 shared-slice-read-put-at c = search needs
 
--- src/lib.rt:66:5
 put-at-requires : tie.Need-put-at-requires
 put-at-requires c κs = search needs
 
--- src/lib.rt:52:1
 same-length : tie.Need-same-length
 same-length c = search needs
 
--- src/lib.rt:52:1
 returns : tie.Need-returns
 returns c = let a = c .before .before .before .before .before .before .before .before .before .before .before .before .before .args in valued (a .cells .now) (a .starts .now) (a .row) (a .values .now) _ (a .a .now) (a .b .now) (a .c .now) _ _ (c .before .before .before .before .before .before .word-of .ensures .0) (c .before .before .before .before .before .word-in .ensures .0) (c .before .before .put-at .ensures)
 

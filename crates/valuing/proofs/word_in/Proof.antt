@@ -8,27 +8,21 @@ use Rattle.valuing.proofs.word_in.Tie as tie
 use Rattle.valuing.proofs.word_in.Reads as reads
 use Rattle.valuing.proofs.word_in.Lts as lts
 
--- src/lib.rt:23:11
 mul-result : tie.Need-mul-result
 mul-result c = search needs
 
--- src/lib.rt:23:11
 add-result : tie.Need-add-result
 add-result c = search needs
 
--- src/lib.rt:23:5
 mul-result-2 : tie.Need-mul-result-2
 mul-result-2 c = search needs
 
--- src/lib.rt:23:5
 shared-slice-read-result : tie.Need-shared-slice-read-result
 shared-slice-read-result c = search needs
 
--- src/lib.rt:23:5
 cast-result : tie.Need-cast-result
 cast-result c = omega (arith, c .shared-slice-known .given (c .before .args .row * 9 + c .before .args .i))
 
--- src/lib.rt:19:1
 returns : tie.Need-returns
 returns c = (sym (getD-drop (c .before .args .row * 9) (c .before .args .cells .now) (c .before .args .i) 0), omega (arith, c .shared-slice-known .given (c .before .args .row * 9 + c .before .args .i)))
 

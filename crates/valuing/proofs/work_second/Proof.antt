@@ -13,43 +13,33 @@ use Rattle.valuing.proofs.second_run.Reads as second-run-reads
 use Rattle.valuing.proofs.word_in.Reads as word-in-reads
 use Rattle.valuing.proofs.work_third.Reads as work-third-reads
 
--- src/lib.rt:104:9
 second-run-requires : tie.Need-second-run-requires
 second-run-requires c κs = search needs
 
--- src/lib.rt:105:9
 word-in-requires : tie.Need-word-in-requires
 word-in-requires c κs = search needs
 
--- src/lib.rt:106:61
 slice-aggregate-gather : tie.Need-slice-aggregate-gather
 slice-aggregate-gather c = search needs
 
--- src/lib.rt:106:9
 gather-requires : tie.Need-gather-requires
 gather-requires c κs = search needs
 
--- src/lib.rt:107:52
 sub-work-third : tie.Need-sub-work-third
 sub-work-third c = search needs
 
--- src/lib.rt:107:52
 part-work-third-start : tie.Need-part-work-third-start
 part-work-third-start c = search needs
 
--- src/lib.rt:107:52
 part-work-third-end : tie.Need-part-work-third-end
 part-work-third-end c = let a = c .before .before .before .before .before .before .before .before .before .before .before .before .before .args in gathered-room (Rattle.cells.specs.Held.heldBits (a .starts .now) (a .values .now)) (Rattle.cells.specs.Held.heldRuns (a .runs .now) (a .trits .now)) _ _ _ _ (c .before .before .before .before .before .before .second-run .ensures .0) (c .before .before .before .before .before .word-in .ensures .0) _ _ _ room-long (c .before .before .gather .ensures) (c .before .before .before .before .before .before .before .before .before .before .before .before .before .pre .0 .narrow .b)
 
--- src/lib.rt:107:5
 work-third-requires : tie.Need-work-third-requires
 work-third-requires c κs = search needs
 
--- src/lib.rt:91:1
 same-length : tie.Need-same-length
 same-length c = search needs
 
--- src/lib.rt:91:1
 returns : tie.Need-returns
 returns c = let a = c .before .before .before .before .before .before .before .before .before .before .before .before .before .before .before .before .before .before .args in revalued (λ z. kindValue (getD (drop (a .row * 9) (a .cells .now)) 0 0) (a .a .now) z (bitsFrom (Rattle.cells.specs.Held.heldBits (a .starts .now) (a .values .now)) ((Rattle.valuing.specs.Row.cellOf (Rattle.cells.specs.Held.heldRuns (a .runs .now) (a .trits .now)) (drop (a .row * 9) (a .cells .now))) .c))) (gathered (Rattle.cells.specs.Held.heldBits (a .starts .now) (a .values .now)) (Rattle.cells.specs.Held.heldRuns (a .runs .now) (a .trits .now)) _ _ _ _ (c .before .before .before .before .before .before .before .before .before .before .before .second-run .ensures .0) (c .before .before .before .before .before .before .before .before .before .before .word-in .ensures .0) _ _ _ room-long (c .before .before .before .before .before .before .before .gather .ensures) (c .before .before .before .before .before .before .before .before .before .before .before .before .before .before .before .before .before .before .pre .0 .narrow .b)) (c .before .before .work-third .ensures)
 

@@ -15,31 +15,24 @@ Inv-loop line from i₀ i = (from ≤ i) × (i ≤ length line)
 abbrev μ-loop : tie.MeasureT-loop
 μ-loop line from i₀ i = length line - i
 
--- src/lib.rt:82:5
 loop-holds : tie.Need-loop-holds Inv-loop μ-loop
 loop-holds c = search needs
 
--- src/lib.rt:83:12
 opens-requires : tie.Need-opens-requires Inv-loop μ-loop
 opens-requires c κs = search needs
 
--- src/lib.rt:84:13
 returns : tie.Need-returns Inv-loop μ-loop
 returns c = search needs
 
--- src/lib.rt:86:9
 past-requires : tie.Need-past-requires Inv-loop μ-loop
 past-requires c κs = search needs
 
--- src/lib.rt:82:5
 loop-less : tie.Need-loop-less Inv-loop μ-loop
 loop-less c = search needs
 
--- src/lib.rt:82:5
 loop-again : tie.Need-loop-again Inv-loop μ-loop
 loop-again c = search needs
 
--- src/lib.rt:77:1
 returns-2 : tie.Need-returns-2 Inv-loop μ-loop
 returns-2 c = search needs
 

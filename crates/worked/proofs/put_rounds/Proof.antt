@@ -14,31 +14,24 @@ Inv-loop body times room₀ n k₀ round₀ room k round = (k ≤ length room₀
 abbrev μ-loop : tie.MeasureT-loop
 μ-loop body times room₀ n k₀ round₀ room k round = times - round
 
--- src/lib.rt:229:5
 loop-holds : tie.Need-loop-holds Inv-loop μ-loop
 loop-holds c = search needs
 
--- src/lib.rt:230:9
 put-bytes-requires : tie.Need-put-bytes-requires Inv-loop μ-loop
 put-bytes-requires c κs = search needs
 
--- src/lib.rt:231:9
 add-round : tie.Need-add-round Inv-loop μ-loop
 add-round c = search needs
 
--- src/lib.rt:229:5
 loop-less : tie.Need-loop-less Inv-loop μ-loop
 loop-less c = search needs
 
--- src/lib.rt:229:5
 loop-again : tie.Need-loop-again Inv-loop μ-loop
 loop-again c = search needs
 
--- src/lib.rt:223:1
 same-length : tie.Need-same-length Inv-loop μ-loop
 same-length c = search needs
 
--- src/lib.rt:223:1
 returns : tie.Need-returns Inv-loop μ-loop
 returns c = search needs
 

@@ -18,123 +18,93 @@ Inv-loop line room₀ n₀ at₀ room n at = (n ≤ length room₀) × (length r
 abbrev μ-loop : tie.MeasureT-loop
 μ-loop line room₀ n₀ at₀ room n at = length line - at
 
--- src/lib.rt:242:5
 loop-holds : tie.Need-loop-holds Inv-loop μ-loop
 loop-holds c = search needs
 
--- src/lib.rt:243:13
 pattern-at-requires : tie.Need-pattern-at-requires Inv-loop μ-loop
 pattern-at-requires c κs = search needs
 
--- src/lib.rt:244:23
 sub-put-bytes : tie.Need-sub-put-bytes Inv-loop μ-loop
 sub-put-bytes c = search needs
 
--- src/lib.rt:244:23
 part-put-bytes-start : tie.Need-part-put-bytes-start Inv-loop μ-loop
 part-put-bytes-start c = search needs
 
--- src/lib.rt:244:23
 part-put-bytes-end : tie.Need-part-put-bytes-end Inv-loop μ-loop
 part-put-bytes-end c = search needs
 
--- src/lib.rt:244:9
 put-bytes-requires : tie.Need-put-bytes-requires Inv-loop μ-loop
 put-bytes-requires c κs = search needs
 
--- src/lib.rt:245:13
 find-requires : tie.Need-find-requires Inv-loop μ-loop
 find-requires c κs = search needs
 
--- src/lib.rt:246:13
 find-requires-2 : tie.Need-find-requires-2 Inv-loop μ-loop
 find-requires-2 c κs = search needs
 
--- src/lib.rt:248:13
 same-length : tie.Need-same-length Inv-loop μ-loop
 same-length c = search needs
 
--- src/lib.rt:248:13
 returns : tie.Need-returns Inv-loop μ-loop
 returns c = search needs
 
--- src/lib.rt:250:12
 sub-if2 : tie.Need-sub-if2 Inv-loop μ-loop
 sub-if2 c = search needs
 
--- src/lib.rt:251:13
 same-length-2 : tie.Need-same-length-2 Inv-loop μ-loop
 same-length-2 c = search needs
 
--- src/lib.rt:251:13
 returns-2 : tie.Need-returns-2 Inv-loop μ-loop
 returns-2 c = search needs
 
--- src/lib.rt:254:13
 same-length-3 : tie.Need-same-length-3 Inv-loop μ-loop
 same-length-3 c = search needs
 
--- src/lib.rt:254:13
 returns-3 : tie.Need-returns-3 Inv-loop μ-loop
 returns-3 c = search needs
 
--- src/lib.rt:256:34
 add-number : tie.Need-add-number Inv-loop μ-loop
 add-number c = search needs
 
--- src/lib.rt:256:28
 sub-number : tie.Need-sub-number Inv-loop μ-loop
 sub-number c = search needs
 
--- src/lib.rt:256:28
 part-number-start : tie.Need-part-number-start Inv-loop μ-loop
 part-number-start c = search needs
 
--- src/lib.rt:256:28
 part-number-end : tie.Need-part-number-end Inv-loop μ-loop
 part-number-end c = search needs
 
--- src/lib.rt:256:13
 number-requires : tie.Need-number-requires Inv-loop μ-loop
 number-requires c κs = search needs
 
--- src/lib.rt:257:30
 add-put-rounds : tie.Need-add-put-rounds Inv-loop μ-loop
 add-put-rounds c = search needs
 
--- src/lib.rt:257:24
 sub-put-rounds : tie.Need-sub-put-rounds Inv-loop μ-loop
 sub-put-rounds c = search needs
 
--- src/lib.rt:257:24
 part-put-rounds-start : tie.Need-part-put-rounds-start Inv-loop μ-loop
 part-put-rounds-start c = search needs
 
--- src/lib.rt:257:24
 part-put-rounds-end : tie.Need-part-put-rounds-end Inv-loop μ-loop
 part-put-rounds-end c = search needs
 
--- src/lib.rt:257:9
 put-rounds-requires : tie.Need-put-rounds-requires Inv-loop μ-loop
 put-rounds-requires c κs = search needs
 
--- src/lib.rt:258:14
 add-at : tie.Need-add-at Inv-loop μ-loop
 add-at c = search needs
 
--- src/lib.rt:242:5
 loop-less : tie.Need-loop-less Inv-loop μ-loop
 loop-less c = search needs
 
--- src/lib.rt:242:5
 loop-again : tie.Need-loop-again Inv-loop μ-loop
 loop-again c = search needs
 
--- src/lib.rt:237:1
 same-length-4 : tie.Need-same-length-4 Inv-loop μ-loop
 same-length-4 c = search needs
 
--- src/lib.rt:237:1
 returns-4 : tie.Need-returns-4 Inv-loop μ-loop
 returns-4 c = search needs
 

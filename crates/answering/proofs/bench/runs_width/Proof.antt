@@ -12,31 +12,24 @@ Inv-loop rows first count sum₀ i₀ sum i = (i ≤ 256) × (sum ≤ 256 * i)
 abbrev μ-loop : tie.MeasureT-loop
 μ-loop rows first count sum₀ i₀ sum i = 256 - i
 
--- src/bench.rt:65:5
 loop-holds : tie.Need-loop-holds Inv-loop μ-loop
 loop-holds c = search needs
 
--- src/bench.rt:66:16
 run-width-requires : tie.Need-run-width-requires Inv-loop μ-loop
 run-width-requires c κs = search needs
 
--- src/bench.rt:66:9
 add-sum : tie.Need-add-sum Inv-loop μ-loop
 add-sum c = search needs
 
--- src/bench.rt:67:9
 add-i : tie.Need-add-i Inv-loop μ-loop
 add-i c = search needs
 
--- src/bench.rt:65:5
 loop-less : tie.Need-loop-less Inv-loop μ-loop
 loop-less c = search needs
 
--- src/bench.rt:65:5
 loop-again : tie.Need-loop-again Inv-loop μ-loop
 loop-again c = search needs
 
--- src/bench.rt:62:1
 returns : tie.Need-returns Inv-loop μ-loop
 returns c = search needs
 

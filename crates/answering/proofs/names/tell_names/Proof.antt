@@ -13,35 +13,27 @@ Inv-loop path rows strings trits count row₀ row = row ≤ count
 abbrev μ-loop : tie.MeasureT-loop
 μ-loop path rows strings trits count row₀ row = count - row
 
--- src/names.rt:51:9
 word-at-requires : tie.Need-word-at-requires Inv-loop μ-loop
 word-at-requires c κs = search needs
 
--- src/names.rt:53:5
 loop-holds : tie.Need-loop-holds Inv-loop μ-loop
 loop-holds c = search needs
 
--- src/names.rt:54:12
 tell-ident-requires : tie.Need-tell-ident-requires Inv-loop μ-loop
 tell-ident-requires c κs = search needs
 
--- src/names.rt:55:13
 add-row : tie.Need-add-row Inv-loop μ-loop
 add-row c = search needs
 
--- src/names.rt:53:5
 loop-less : tie.Need-loop-less Inv-loop μ-loop
 loop-less c = search needs
 
--- src/names.rt:53:5
 loop-again : tie.Need-loop-again Inv-loop μ-loop
 loop-again c = search needs
 
--- src/names.rt:57:13
 returns : tie.Need-returns Inv-loop μ-loop
 returns c = search needs
 
--- src/names.rt:50:1
 returns-2 : tie.Need-returns-2 Inv-loop μ-loop
 returns-2 c = search needs
 

@@ -13,35 +13,27 @@ Inv-loop rows strings count row₀ row = row ≤ count
 abbrev μ-loop : tie.MeasureT-loop
 μ-loop rows strings count row₀ row = count - row
 
--- src/names.rt:94:9
 word-at-requires : tie.Need-word-at-requires Inv-loop μ-loop
 word-at-requires c κs = search needs
 
--- src/names.rt:96:5
 loop-holds : tie.Need-loop-holds Inv-loop μ-loop
 loop-holds c = search needs
 
--- src/names.rt:97:12
 tell-pad-row-requires : tie.Need-tell-pad-row-requires Inv-loop μ-loop
 tell-pad-row-requires c κs = search needs
 
--- src/names.rt:98:13
 add-row : tie.Need-add-row Inv-loop μ-loop
 add-row c = search needs
 
--- src/names.rt:96:5
 loop-less : tie.Need-loop-less Inv-loop μ-loop
 loop-less c = search needs
 
--- src/names.rt:96:5
 loop-again : tie.Need-loop-again Inv-loop μ-loop
 loop-again c = search needs
 
--- src/names.rt:100:13
 returns : tie.Need-returns Inv-loop μ-loop
 returns c = search needs
 
--- src/names.rt:93:1
 returns-2 : tie.Need-returns-2 Inv-loop μ-loop
 returns-2 c = search needs
 

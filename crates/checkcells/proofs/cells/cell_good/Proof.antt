@@ -17,69 +17,53 @@ use Rattle.checkcells.proofs.cells.operands_good.Reads as operands-good
 use Rattle.pools.proofs.both.Reads as both-reads
 use Rattle.pools.proofs.word_of.Reads as word-of-reads
 
--- src/cells.rt:170:19
 shared-slice-read-kind-known : tie.Need-shared-slice-read-kind-known
 shared-slice-read-kind-known c = search needs
 
--- src/cells.rt:170:8
 kind-known-requires : tie.Need-kind-known-requires
 kind-known-requires c κs = search needs
 
--- src/cells.rt:171:20
 shared-slice-read-kind : tie.Need-shared-slice-read-kind
 shared-slice-read-kind c = search needs
 
--- src/cells.rt:171:20
 cast-kind : tie.Need-cast-kind
 cast-kind c = let k = sym (c .before .before .kind-known .ensures) ∙ c .before .if1 .taken in omega (arith, kind-small (getD (c .before .before .before .before .before .before .before .before .args .row .now) 0 0) k)
 
--- src/cells.rt:172:17
 is-placed-requires : tie.Need-is-placed-requires
 is-placed-requires c κs = search needs
 
--- src/cells.rt:172:39
 head-sound-requires : tie.Need-head-sound-requires
 head-sound-requires c κs = search needs
 
--- src/cells.rt:172:12
 both-requires : tie.Need-both-requires
 both-requires c κs = search needs
 
--- src/cells.rt:179:17
 word-of-requires : tie.Need-word-of-requires
 word-of-requires c κs = search needs
 
--- src/cells.rt:180:17
 word-of-requires-2 : tie.Need-word-of-requires-2
 word-of-requires-2 c κs = search needs
 
--- src/cells.rt:181:17
 word-of-requires-3 : tie.Need-word-of-requires-3
 word-of-requires-3 c κs = search needs
 
--- src/cells.rt:173:17
 operands-good-requires : tie.Need-operands-good-requires
 operands-good-requires c κs = let a = c .before .before .before .before .before .before .before .before .before .before .before .before .before .before .before .args in let e = rw (c .before .before .before .before .before .before .is-placed .ensures, c .before .before .before .before .before .head-sound .ensures) at (sym (c .before .before .before .before .both .ensures) ∙ c .before .before .before .if2 .taken) in let p = placed-is (a .s) (a .r) (a .row .now) (and-true _ _ e .0) in (c .before .before .before .before .before .before .before .before .before .before .before .before .before .before .before .pre .0, c .before .before .before .before .before .before .before .before .before .before .before .before .before .before .before .pre .2, c .before .before .before .before .before .before .before .before .before .before .before .before .before .before .before .pre .3, omega (arith, p .runs, c .before .before .word-of .ensures .0, c .before .word-of2 .ensures .0, c .word-of3 .ensures .0), c .before .before .before .before .before .before .before .before .before .before .before .before .before .before .before .pre .6)
 
--- src/cells.rt:184:32
 word-of-requires-4 : tie.Need-word-of-requires-4
 word-of-requires-4 c κs = search needs
 
--- src/cells.rt:184:13
 judge-requires : tie.Need-judge-requires
 judge-requires c κs = search needs
 
--- src/cells.rt:184:13
 returns : tie.Need-returns
 unfolding cellGood
 returns c = let k = sym (c .before .before .before .before .before .before .before .before .before .before .before .before .kind-known .ensures) ∙ c .before .before .before .before .before .before .before .before .before .before .before .if1 .taken in let e = rw (c .before .before .before .before .before .before .before .before .before .is-placed .ensures, c .before .before .before .before .before .before .before .before .head-sound .ensures) at (sym (c .before .before .before .before .before .before .before .both .ensures) ∙ c .before .before .before .before .before .before .if2 .taken) in (rw (k, e, ← c .before .before .before .before .before .word-of .ensures .0, ← c .before .before .before .before .word-of2 .ensures .0, ← c .before .before .before .word-of3 .ensures .0, ← c .before .word-of4 .ensures .0, ← c .before .before .operands-good .ensures .0) (c .judge .ensures .0), c .judge .ensures .1, c .judge .ensures .2)
 
--- src/cells.rt:186:9
 returns-2 : tie.Need-returns-2
 unfolding cellGood
 returns-2 c = let k = sym (c .before .before .before .before .before .before .kind-known .ensures) ∙ c .before .before .before .before .before .if1 .taken in let e = rw (c .before .before .before .is-placed .ensures, c .before .before .head-sound .ensures) at (sym (c .before .both .ensures) ∙ c .if2 .left) in (rw (k, e), omega arith, omega arith)
 
--- src/cells.rt:156:1
 returns-3 : tie.Need-returns-3
 unfolding cellGood
 returns-3 c = let k = sym (c .before .kind-known .ensures) ∙ c .if1 .left in (rw k, omega arith, omega arith)

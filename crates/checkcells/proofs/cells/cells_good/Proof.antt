@@ -21,135 +21,102 @@ Inv-loop cells n metas runs bits names i₀ s₀ r₀ b₀ d₀ o₀ i s r b d o
 abbrev μ-loop : tie.MeasureT-loop
 μ-loop cells n metas runs bits names i₀ s₀ r₀ b₀ d₀ o₀ i s r b d o = n - i
 
--- src/cells.rt:209:5
 loop-holds : tie.Need-loop-holds Inv-loop μ-loop
 loop-holds c = let a = c .before .before .before .args in record { row = omega arith; s-room = c .before .before .before .pre .4; r-room = omega arith; b-room = omega arith; d-room = omega arith; o-room = omega arith; is = let e : a .n - 0 ≡ a .n = omega arith in rw e }
 
--- src/cells.rt:210:18
 mul-at : tie.Need-mul-at Inv-loop μ-loop
 mul-at c = search needs
 
--- src/cells.rt:211:35
 mul-cell-good : tie.Need-mul-cell-good Inv-loop μ-loop
 mul-cell-good c = search needs
 
--- src/cells.rt:211:35
 sub-cell-good : tie.Need-sub-cell-good Inv-loop μ-loop
 sub-cell-good c = search needs
 
--- src/cells.rt:211:35
 part-cell-good-start : tie.Need-part-cell-good-start Inv-loop μ-loop
 part-cell-good-start c = search needs
 
--- src/cells.rt:211:35
 part-cell-good-end : tie.Need-part-cell-good-end Inv-loop μ-loop
 part-cell-good-end c = search needs
 
--- src/cells.rt:211:15
 cell-good-requires : tie.Need-cell-good-requires Inv-loop μ-loop
 cell-good-requires c κs = let a = c .before .before .before .before .before .before .args in let v = c .before .before .loop .inv in (c .before .before .before .before .before .before .pre .0, rw (rest-all (a .cells .now) (c .before .before .loop .i * 9), length-drop) (omega (arith, c .before .before .before .before .before .before .pre, c .before .loop-test .taken)), c .before .before .before .before .before .before .pre .2, c .before .before .before .before .before .before .pre .3, v .s-room, v .r-room, v .b-room)
 
--- src/cells.rt:213:17
 enum-told : tie.Need-enum-told Inv-loop μ-loop
 enum-told c = search needs
 
--- src/cells.rt:213:17
 returns : tie.Need-returns Inv-loop μ-loop
 returns c = let a = c .before .before .before .before .before .before .before .before .before .args in let p = c .before .before .before .before .before .loop in let u = rw (rest-all (a .cells .now) (p .i * 9)) at (sym (c .before .before .cell-good .ensures .0)) in (cells-off (widthsIn (a .n) (a .cells .now)) (a .bits .now) (a .runs .now) (a .metas) (a .cells .now) (p .i) (p .s) (p .r) (p .b) (p .d) (p .o) (a .n) (c .before .before .before .before .loop-test .taken) (u ∙ c .enum-told .given .1) ∙ p .inv .is, omega arith)
 
--- src/cells.rt:215:26
 enum-known-out : tie.Need-enum-known-out Inv-loop μ-loop
 enum-known-out c = search needs
 
--- src/cells.rt:216:37
 add-word-of : tie.Need-add-word-of Inv-loop μ-loop
 add-word-of c = search needs
 
--- src/cells.rt:216:22
 word-of-requires : tie.Need-word-of-requires Inv-loop μ-loop
 word-of-requires c κs = search needs
 
--- src/cells.rt:216:17
 add-s : tie.Need-add-s Inv-loop μ-loop
 add-s c = search needs
 
--- src/cells.rt:217:37
 add-word-of-2 : tie.Need-add-word-of-2 Inv-loop μ-loop
 add-word-of-2 c = search needs
 
--- src/cells.rt:217:22
 word-of-requires-2 : tie.Need-word-of-requires-2 Inv-loop μ-loop
 word-of-requires-2 c κs = search needs
 
--- src/cells.rt:217:63
 add-word-of-3 : tie.Need-add-word-of-3 Inv-loop μ-loop
 add-word-of-3 c = search needs
 
--- src/cells.rt:217:48
 word-of-requires-3 : tie.Need-word-of-requires-3 Inv-loop μ-loop
 word-of-requires-3 c κs = search needs
 
--- src/cells.rt:217:88
 add-word-of-4 : tie.Need-add-word-of-4 Inv-loop μ-loop
 add-word-of-4 c = search needs
 
--- src/cells.rt:217:73
 word-of-requires-4 : tie.Need-word-of-requires-4 Inv-loop μ-loop
 word-of-requires-4 c κs = search needs
 
--- src/cells.rt:217:48
 add-r : tie.Need-add-r Inv-loop μ-loop
 add-r c = search needs
 
--- src/cells.rt:217:22
 add-r-2 : tie.Need-add-r-2 Inv-loop μ-loop
 add-r-2 c = search needs
 
--- src/cells.rt:217:17
 add-r-3 : tie.Need-add-r-3 Inv-loop μ-loop
 add-r-3 c = search needs
 
--- src/cells.rt:219:37
 add-word-of-5 : tie.Need-add-word-of-5 Inv-loop μ-loop
 add-word-of-5 c = search needs
 
--- src/cells.rt:219:22
 word-of-requires-5 : tie.Need-word-of-requires-5 Inv-loop μ-loop
 word-of-requires-5 c κs = search needs
 
--- src/cells.rt:219:17
 add-d : tie.Need-add-d Inv-loop μ-loop
 add-d c = search needs
 
--- src/cells.rt:220:17
 add-o : tie.Need-add-o Inv-loop μ-loop
 add-o c = let l : outOf (c .before .before .before .before .before .before .before .before .cell-good .result) < 17592186044417 = c .before .before .before .before .before .before .before .before .cell-good .ensures .1 in let k = rw (c .before .before .before .before .before .before .out .given .1) at l in omega (arith, k, c .before .before .before .before .before .before .before .before .before .before .before .loop .inv .o-room, c .before .before .before .before .before .before .before .before .before .before .loop-test .taken, c .before .before .before .before .before .before .before .before .before .before .before .before .before .before .before .pre)
 
--- src/cells.rt:221:17
 add-i : tie.Need-add-i Inv-loop μ-loop
 add-i c = search needs
 
--- src/cells.rt:209:5
 loop-less : tie.Need-loop-less Inv-loop μ-loop
 loop-less c = search needs
 
--- src/cells.rt:209:5
 loop-again : tie.Need-loop-again Inv-loop μ-loop
 loop-again c = let a = c .before .before .before .before .before .before .before .before .before .before .before .before .before .before .before .args in let p = c .before .before .before .before .before .before .before .before .before .before .before .loop in let u = rw (rest-all (a .cells .now) (p .i * 9)) at (sym (c .before .before .before .before .before .before .before .before .cell-good .ensures .0)) in let l : outOf (c .before .before .before .before .before .before .before .before .cell-good .result) < 17592186044417 = c .before .before .before .before .before .before .before .before .cell-good .ensures .1 in let k : tritsOf (c .before .before .before .before .before .before .before .before .cell-good .result) ≤ 262656 = c .before .before .before .before .before .before .before .before .cell-good .ensures .2 in telling-on (p .inv) (c .before .before .before .before .before .before .before .before .before .before .loop-test .taken) _ _ (rw (c .before .before .before .before .before .before .out .given .1) at l) (rw (c .before .before .before .before .before .before .out .given .1) at k) (u ∙ c .before .before .before .before .before .before .out .given .1) _ _ _ _ _ (c .before .before .before .before .word-of .ensures .0) (c .before .before .before .word-of2 .ensures .0) (c .before .before .word-of3 .ensures .0) (c .before .word-of4 .ensures .0) (c .word-of5 .ensures .0) (c .word-of5 .ensures .1)
 
--- src/cells.rt:225:27
 mul-blank-words : tie.Need-mul-blank-words Inv-loop μ-loop
 mul-blank-words c = search needs
 
--- src/cells.rt:225:8
 blank-words-requires : tie.Need-blank-words-requires Inv-loop μ-loop
 blank-words-requires c κs = search needs
 
--- src/cells.rt:226:9
 returns-2 : tie.Need-returns-2 Inv-loop μ-loop
 returns-2 c = let a = c .before .before .before .before .before .before .before .args in let p = c .before .before .before .loop in ((rw (sym (c .before .blank-words .ensures) ∙ c .if1 .taken) at (cells-end (widthsIn (a .n) (a .cells .now)) (a .bits .now) (a .runs .now) (a .metas) (a .cells .now) (p .i) (p .s) (p .r) (p .b) (p .d) (p .o) (a .n) (c .before .before .loop-test .left))) ∙ p .inv .is, p .inv .r-room)
 
--- src/cells.rt:192:1
 returns-3 : tie.Need-returns-3 Inv-loop μ-loop
 returns-3 c = let a = c .before .before .before .before .before .before .before .args in let p = c .before .before .before .loop in ((rw (sym (c .before .blank-words .ensures) ∙ c .if1 .left) at (cells-end (widthsIn (a .n) (a .cells .now)) (a .bits .now) (a .runs .now) (a .metas) (a .cells .now) (p .i) (p .s) (p .r) (p .b) (p .d) (p .o) (a .n) (c .before .before .loop-test .left))) ∙ p .inv .is, omega arith)
 

@@ -9,63 +9,48 @@ use Rattle.pools.proofs.both.Reads as both-reads
 use Rattle.pools.proofs.word_of.Reads as word-of-reads
 use Rattle.kinds.proofs.operands_of.Reads as operands-of-reads
 
--- src/cells.rt:74:9
 operands-of-requires : tie.Need-operands-of-requires
 operands-of-requires c κs = search needs
 
--- src/cells.rt:75:9
 word-of-requires : tie.Need-word-of-requires
 word-of-requires c κs = search needs
 
--- src/cells.rt:77:31
 shared-slice-read-name-sound : tie.Need-shared-slice-read-name-sound
 shared-slice-read-name-sound c = search needs
 
--- src/cells.rt:77:14
 name-sound-requires : tie.Need-name-sound-requires
 name-sound-requires c κs = search needs
 
--- src/cells.rt:77:9
 both-requires : tie.Need-both-requires
 both-requires c κs = search needs
 
--- src/cells.rt:79:39
 shared-slice-read-runs-allowed : tie.Need-shared-slice-read-runs-allowed
 shared-slice-read-runs-allowed c = search needs
 
--- src/cells.rt:79:13
 runs-allowed-requires : tie.Need-runs-allowed-requires
 runs-allowed-requires c κs = search needs
 
--- src/cells.rt:81:43
 shared-slice-read-runs-allowed-2 : tie.Need-shared-slice-read-runs-allowed-2
 shared-slice-read-runs-allowed-2 c = search needs
 
--- src/cells.rt:81:17
 runs-allowed-requires-2 : tie.Need-runs-allowed-requires-2
 runs-allowed-requires-2 c κs = search needs
 
--- src/cells.rt:82:43
 shared-slice-read-runs-allowed-3 : tie.Need-shared-slice-read-runs-allowed-3
 shared-slice-read-runs-allowed-3 c = search needs
 
--- src/cells.rt:82:17
 runs-allowed-requires-3 : tie.Need-runs-allowed-requires-3
 runs-allowed-requires-3 c κs = search needs
 
--- src/cells.rt:80:13
 both-requires-2 : tie.Need-both-requires-2
 both-requires-2 c κs = search needs
 
--- src/cells.rt:78:9
 both-requires-3 : tie.Need-both-requires-3
 both-requires-3 c κs = search needs
 
--- src/cells.rt:76:5
 both-requires-4 : tie.Need-both-requires-4
 both-requires-4 c κs = search needs
 
--- src/cells.rt:70:1
 returns : tie.Need-returns
 returns c = rw (c .both4 .ensures, c .before .both3 .ensures, c .before .before .both2 .ensures, c .before .before .before .runs-allowed3 .ensures, c .before .before .before .before .before .runs-allowed2 .ensures, c .before .before .before .before .before .before .before .runs-allowed .ensures, c .before .before .before .before .before .before .before .before .before .both .ensures, c .before .before .before .before .before .before .before .before .before .before .name-sound .ensures, c .before .before .before .before .before .before .before .before .before .before .before .before .word-of .ensures .0, c .before .before .before .before .before .before .before .before .before .before .before .before .before .operands-of .ensures)
 

@@ -7,51 +7,39 @@ use Rattle.pools.proofs.both.Reads as both-reads
 use Rattle.pools.proofs.lies_at.Reads as lies-at-reads
 use Rattle.pools.proofs.word_of.Reads as word-of-reads
 
--- src/cells.rt:93:16
 word-of-requires : tie.Need-word-of-requires
 word-of-requires c κs = search needs
 
--- src/cells.rt:93:35
 word-of-requires-2 : tie.Need-word-of-requires-2
 word-of-requires-2 c κs = search needs
 
--- src/cells.rt:93:53
 word-of-requires-3 : tie.Need-word-of-requires-3
 word-of-requires-3 c κs = search needs
 
--- src/cells.rt:93:35
 add-runs : tie.Need-add-runs
 add-runs c = search needs
 
--- src/cells.rt:93:16
 add-runs-2 : tie.Need-add-runs-2
 add-runs-2 c = search needs
 
--- src/cells.rt:95:27
 word-of-requires-4 : tie.Need-word-of-requires-4
 word-of-requires-4 c κs = search needs
 
--- src/cells.rt:95:44
 word-of-requires-5 : tie.Need-word-of-requires-5
 word-of-requires-5 c κs = search needs
 
--- src/cells.rt:95:9
 lies-at-requires : tie.Need-lies-at-requires
 lies-at-requires c κs = search needs
 
--- src/cells.rt:96:26
 word-of-requires-6 : tie.Need-word-of-requires-6
 word-of-requires-6 c κs = search needs
 
--- src/cells.rt:96:9
 lies-at-requires-2 : tie.Need-lies-at-requires-2
 lies-at-requires-2 c κs = search needs
 
--- src/cells.rt:94:5
 both-requires : tie.Need-both-requires
 both-requires c κs = search needs
 
--- src/cells.rt:89:1
 returns : tie.Need-returns
 returns c = rw (c .both .ensures, c .before .lies-at2 .ensures, c .before .before .word-of6 .ensures .0, c .before .before .before .lies-at .ensures, c .before .before .before .before .word-of5 .ensures .0, c .before .before .before .before .before .word-of4 .ensures .0, c .before .before .before .before .before .before .word-of3 .ensures .0, c .before .before .before .before .before .before .before .word-of2 .ensures .0, c .before .before .before .before .before .before .before .before .word-of .ensures .0)
 

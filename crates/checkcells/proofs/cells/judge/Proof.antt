@@ -10,31 +10,24 @@ use Rattle.checkcells.proofs.cells.judge.Lts as lts
 use Rattle.checkcells.proofs.cells.out_width.Reads as out-width-reads
 use Rattle.kinds.proofs.fits.Reads as fits-reads
 
--- src/cells.rt:145:26
 enum-told : tie.Need-enum-told
 enum-told c = search needs
 
--- src/cells.rt:146:20
 enum-known-operands : tie.Need-enum-known-operands
 enum-known-operands c = search needs
 
--- src/cells.rt:147:16
 fits-requires : tie.Need-fits-requires
 fits-requires c κs = search needs
 
--- src/cells.rt:148:37
 out-width-requires : tie.Need-out-width-requires
 out-width-requires c κs = search needs
 
--- src/cells.rt:148:17
 returns : tie.Need-returns
 returns c = let a = c .before .before .before .before .before .before .args in let f : firstOf (a .operands) < 17592186044417 = c .before .before .before .before .before .before .pre .0 in let e : endOf (a .operands) ≤ 262656 = c .before .before .before .before .before .before .pre .1 in (rw (c .before .before .before .before .operands .given .1, ← c .before .before .fits2 .ensures, c .before .if1 .taken, c .out-width .ensures .0), omega (arith, c .out-width .ensures .1, rw (c .before .before .before .before .operands .given .1) at f), rw (c .before .before .before .before .operands .given .1) at e)
 
--- src/cells.rt:140:1
 returns-2 : tie.Need-returns-2
 returns-2 c = search needs
 
--- src/cells.rt:140:1
 returns-3 : tie.Need-returns-3
 returns-3 c = (rw (c .before .before .before .operands .given .1, ← c .before .fits2 .ensures, c .if1 .left), omega arith, omega arith)
 

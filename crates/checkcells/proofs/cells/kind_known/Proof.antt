@@ -5,11 +5,9 @@ use Rattle.checkcells.proofs.cells.kind_known.Tie as tie
 use Rattle.checkcells.proofs.cells.kind_known.Reads as reads
 use Rattle.checkcells.proofs.cells.kind_known.Lts as lts
 
--- src/cells.rt:42:9
 returns : tie.Need-returns
 returns c = search tests
 
--- src/cells.rt:38:1
 returns-2 : tie.Need-returns-2
 returns-2 c = search tests
 

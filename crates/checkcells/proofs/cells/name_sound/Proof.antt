@@ -6,19 +6,15 @@ use Rattle.checkcells.proofs.cells.name_sound.Reads as reads
 use Rattle.checkcells.proofs.cells.name_sound.Lts as lts
 use Rattle.kinds.proofs.has_name.Reads as has-name-reads
 
--- src/cells.rt:51:8
 has-name-requires : tie.Need-has-name-requires
 has-name-requires c κs = search needs
 
--- src/cells.rt:53:13
 returns : tie.Need-returns
 returns c = rw (← c .before .before .has-name .ensures, c .before .if1 .taken, lt-leb 1 _ (c .if2 .taken))
 
--- src/cells.rt:55:9
 returns-2 : tie.Need-returns-2
 returns-2 c = rw (← c .before .before .has-name .ensures, c .before .if1 .taken, le-leb 1 _ (c .if2 .left))
 
--- src/cells.rt:48:1
 returns-3 : tie.Need-returns-3
 returns-3 c = rw (← c .before .has-name .ensures, c .if1 .left)
 

@@ -10,70 +10,54 @@ use Rattle.checkcells.proofs.cells.operands_good.Reads as reads
 use Rattle.checkcells.proofs.cells.operands_good.Lts as lts
 use Rattle.checkcells.proofs.runs.operand_of.Reads as operand-of-reads
 
--- src/cells.rt:115:11
 operand-of-requires : tie.Need-operand-of-requires
 operand-of-requires c κs = search needs
 
--- src/cells.rt:116:27
 enum-told : tie.Need-enum-told
 enum-told c = search needs
 
--- src/cells.rt:117:23
 enum-known-x : tie.Need-enum-known-x
 enum-known-x c = search needs
 
--- src/cells.rt:117:71
 add-operand-of : tie.Need-add-operand-of
 add-operand-of c = search needs
 
--- src/cells.rt:117:38
 operand-of-requires-2 : tie.Need-operand-of-requires-2
 operand-of-requires-2 c κs = let d : endOf (c .before .before .before .operand-of .result) ≤ 262656 = c .before .before .before .operand-of .ensures .2 in (c .before .before .before .before .before .before .before .pre .0, c .before .before .before .before .before .before .before .pre .1, omega (arith, c .before .before .before .before .before .before .before .pre .3), c .before .before .before .before .before .before .before .pre .2, rw (c .before .x .given .1) at d)
 
--- src/cells.rt:118:31
 enum-told-2 : tie.Need-enum-told-2
 enum-told-2 c = search needs
 
--- src/cells.rt:119:27
 enum-known-y : tie.Need-enum-known-y
 enum-known-y c = search needs
 
--- src/cells.rt:120:56
 add-operand-of-2 : tie.Need-add-operand-of-2
 add-operand-of-2 c = search needs
 
--- src/cells.rt:120:56
 add-operand-of-3 : tie.Need-add-operand-of-3
 add-operand-of-3 c = search needs
 
--- src/cells.rt:120:23
 operand-of-requires-3 : tie.Need-operand-of-requires-3
 operand-of-requires-3 c κs = let d : endOf (c .before .before .before .operand-of2 .result) ≤ 262656 = c .before .before .before .operand-of2 .ensures .2 in (c .before .before .before .before .before .before .before .before .before .before .before .pre .0, c .before .before .before .before .before .before .before .before .before .before .before .pre .1, omega (arith, c .before .before .before .before .before .before .before .before .before .before .before .pre .3), c .before .before .before .before .before .before .before .before .before .before .before .pre .2, rw (c .before .y .given .1) at d)
 
--- src/cells.rt:121:39
 enum-told-3 : tie.Need-enum-told-3
 enum-told-3 c = search needs
 
--- src/cells.rt:122:35
 enum-known-z : tie.Need-enum-known-z
 enum-known-z c = search needs
 
--- src/cells.rt:101:1
 returns : tie.Need-returns
 unfolding operandsWalk
 returns c = (rw (sym (c .before .before .operand-of .ensures .0) ∙ c .enum-told .given .1), omega arith, omega arith)
 
--- src/cells.rt:101:1
 returns-2 : tie.Need-returns-2
 unfolding operandsWalk
 returns-2 c = (rw (sym (c .before .before .before .before .before .before .operand-of .ensures .0) ∙ c .before .before .before .before .x .given .1, sym (c .before .before .operand-of2 .ensures .0) ∙ c .enum-told2 .given .1), omega arith, omega arith)
 
--- src/cells.rt:101:1
 returns-3 : tie.Need-returns-3
 unfolding operandsWalk
 returns-3 c = (rw (sym (c .before .before .before .before .before .before .before .before .before .before .operand-of .ensures .0) ∙ c .before .before .before .before .before .before .before .before .x .given .1, sym (c .before .before .before .before .before .before .operand-of2 .ensures .0) ∙ c .before .before .before .before .y .given .1, sym (c .before .before .operand-of3 .ensures .0) ∙ c .enum-told3 .given .1), omega arith, omega arith)
 
--- src/cells.rt:101:1
 returns-4 : tie.Need-returns-4
 unfolding operandsWalk
 returns-4 c = let d : endOf (c .before .before .before .operand-of3 .result) ≤ 262656 = c .before .before .before .operand-of3 .ensures .2 in let w : wideOf (c .before .before .before .before .before .before .before .before .before .before .before .operand-of .result) < 17592186044417 = c .before .before .before .before .before .before .before .before .before .before .before .operand-of .ensures .1 in (rw (sym (c .before .before .before .before .before .before .before .before .before .before .before .operand-of .ensures .0) ∙ c .before .before .before .before .before .before .before .before .before .x .given .1, sym (c .before .before .before .before .before .before .before .operand-of2 .ensures .0) ∙ c .before .before .before .before .before .y .given .1, sym (c .before .before .before .operand-of3 .ensures .0) ∙ c .before .z .given .1), rw (c .before .before .before .before .before .before .before .before .before .x .given .1) at w, rw (c .before .z .given .1) at d)

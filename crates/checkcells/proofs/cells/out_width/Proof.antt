@@ -6,11 +6,9 @@ use Rattle.checkcells.proofs.cells.out_width.Tie as tie
 use Rattle.checkcells.proofs.cells.out_width.Reads as reads
 use Rattle.checkcells.proofs.cells.out_width.Lts as lts
 
--- src/cells.rt:134:9
 returns : tie.Need-returns
 returns c = (rw (eq-eqb _ 2 (c .if1 .taken)), omega arith)
 
--- src/cells.rt:130:1
 returns-2 : tie.Need-returns-2
 returns-2 c = (rw (ne-eqb _ 2 (c .if1 .left)), omega arith)
 

@@ -5,11 +5,9 @@ use Rattle.checkcells.proofs.cells.runs_allowed.Tie as tie
 use Rattle.checkcells.proofs.cells.runs_allowed.Reads as reads
 use Rattle.checkcells.proofs.cells.runs_allowed.Lts as lts
 
--- src/cells.rt:65:9
 returns : tie.Need-returns
 returns c = search tests
 
--- src/cells.rt:61:1
 returns-2 : tie.Need-returns-2
 returns-2 c = search tests
 

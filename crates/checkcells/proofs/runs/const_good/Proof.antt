@@ -9,35 +9,27 @@ use Rattle.checkcells.proofs.runs.const_good.Lts as lts
 use Rattle.pools.proofs.all_trits.Reads as all-trits-reads
 use Rattle.pools.proofs.lies_at.Reads as lies-at-reads
 
--- src/runs.rt:37:8
 lies-at-requires : tie.Need-lies-at-requires
 lies-at-requires c κs = search needs
 
--- src/runs.rt:38:19
 add-end : tie.Need-add-end
 add-end c = search needs
 
--- src/runs.rt:39:26
 sub-all-trits : tie.Need-sub-all-trits
 sub-all-trits c = search needs
 
--- src/runs.rt:39:26
 part-all-trits-start : tie.Need-part-all-trits-start
 part-all-trits-start c = search needs
 
--- src/runs.rt:39:26
 part-all-trits-end : tie.Need-part-all-trits-end
 part-all-trits-end c = let a = c .before .before .before .args in omega (arith, lies-is (a .b) 262656 (a .start) (a .width) (sym (c .before .lies-at .ensures) ∙ c .if1 .taken) .1, c .before .before .before .pre)
 
--- src/runs.rt:39:9
 all-trits-requires : tie.Need-all-trits-requires
 all-trits-requires c κs = search needs
 
--- src/runs.rt:39:9
 returns : tie.Need-returns
 returns c = let a = c .before .before .before .before .before .args in rw (← c .before .before .before .lies-at .ensures, c .before .before .if1 .taken, ← part-is (a .bits .now) (a .b) (a .width)) (c .all-trits .ensures)
 
--- src/runs.rt:33:1
 returns-2 : tie.Need-returns-2
 returns-2 c = rw (← c .before .lies-at .ensures, c .if1 .left)
 

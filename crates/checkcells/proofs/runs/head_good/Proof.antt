@@ -8,30 +8,24 @@ use Rattle.checkcells.proofs.runs.head_good.Lts as lts
 use Rattle.checkcells.proofs.runs.joins_next.Reads as joins-next-reads
 use Rattle.checkcells.proofs.runs.run_good.Reads as run-good-reads
 
--- src/runs.rt:85:8
 run-good-requires : tie.Need-run-good-requires
 run-good-requires c κs = search needs
 
--- src/runs.rt:87:13
 returns : tie.Need-returns
 unfolding headGood
 returns c = rw (← c .before .before .run-good .ensures, c .before .if1 .taken, eq-eqb _ 0 (c .if2 .taken))
 
--- src/runs.rt:89:12
 joins-next-requires : tie.Need-joins-next-requires
 joins-next-requires c κs = search needs
 
--- src/runs.rt:90:13
 returns-2 : tie.Need-returns-2
 unfolding headGood
 returns-2 c = rw (← c .before .before .before .before .run-good .ensures, c .before .before .before .if1 .taken, ne-eqb _ 0 (c .before .before .if2 .left), ← c .before .joins-next .ensures, c .if3 .taken)
 
--- src/runs.rt:92:9
 returns-3 : tie.Need-returns-3
 unfolding headGood
 returns-3 c = rw (← c .before .before .before .before .run-good .ensures, c .before .before .before .if1 .taken, ne-eqb _ 0 (c .before .before .if2 .left), ← c .before .joins-next .ensures, c .if3 .left)
 
--- src/runs.rt:81:1
 returns-4 : tie.Need-returns-4
 unfolding headGood
 returns-4 c = rw (← c .before .run-good .ensures, c .if1 .left)

@@ -6,55 +6,42 @@ use Rattle.checkcells.proofs.runs.joins_next.Reads as reads
 use Rattle.checkcells.proofs.runs.joins_next.Lts as lts
 use Rattle.pools.proofs.word_of.Reads as word-of-reads
 
--- src/runs.rt:66:9
 word-of-requires : tie.Need-word-of-requires
 word-of-requires c κs = search needs
 
--- src/runs.rt:67:16
 word-of-requires-2 : tie.Need-word-of-requires-2
 word-of-requires-2 c κs = search needs
 
--- src/runs.rt:67:34
 word-of-requires-3 : tie.Need-word-of-requires-3
 word-of-requires-3 c κs = search needs
 
--- src/runs.rt:67:16
 add-next : tie.Need-add-next
 add-next c = search needs
 
--- src/runs.rt:68:8
 shared-slice-read-if1 : tie.Need-shared-slice-read-if1
 shared-slice-read-if1 c = search needs
 
--- src/runs.rt:69:16
 shared-slice-read-result : tie.Need-shared-slice-read-result
 shared-slice-read-result c = search needs
 
--- src/runs.rt:69:9
 returns : tie.Need-returns
 returns c = rw (eq-eqb _ 0 (c .before .if1 .taken))
 
--- src/runs.rt:71:8
 shared-slice-read-if2 : tie.Need-shared-slice-read-if2
 shared-slice-read-if2 c = search needs
 
--- src/runs.rt:72:9
 returns-2 : tie.Need-returns-2
 returns-2 c = rw (ne-eqb _ 0 (c .before .before .if1 .left), eq-eqb _ 0 (c .if2 .taken))
 
--- src/runs.rt:74:8
 shared-slice-read-if3 : tie.Need-shared-slice-read-if3
 shared-slice-read-if3 c = search needs
 
--- src/runs.rt:74:18
 shared-slice-read-if3-2 : tie.Need-shared-slice-read-if3-2
 shared-slice-read-if3-2 c = search needs
 
--- src/runs.rt:75:9
 returns-3 : tie.Need-returns-3
 returns-3 c = rw (ne-eqb _ 0 (c .before .before .before .before .before .if1 .left), ne-eqb _ 0 (c .before .before .before .if2 .left), eq-eqb _ _ (c .if3 .taken), c .before .before .before .before .before .before .before .before .before .word-of .ensures .0, c .before .before .before .before .before .before .before .before .word-of2 .ensures .0, c .before .before .before .before .before .before .before .word-of3 .ensures .0)
 
--- src/runs.rt:62:1
 returns-4 : tie.Need-returns-4
 returns-4 c = rw (ne-eqb _ 0 (c .before .before .before .before .before .if1 .left), ne-eqb _ 0 (c .before .before .before .if2 .left), ne-eqb _ _ (c .if3 .left))
 

@@ -20,79 +20,60 @@ Inv-loop cells n runs bits first count b left₀ r₀ e₀ w₀ left r e w = Wal
 abbrev μ-loop : tie.MeasureT-loop
 μ-loop cells n runs bits first count b left₀ r₀ e₀ w₀ left r e w = left
 
--- src/runs.rt:125:5
 loop-holds : tie.Need-loop-holds Inv-loop μ-loop
 loop-holds c = record { most = omega arith; at = refl; b-room = c .before .before .before .pre .4; w-room = omega arith; is = refl }
 
--- src/runs.rt:126:18
 mul-at : tie.Need-mul-at Inv-loop μ-loop
 mul-at c = search needs
 
--- src/runs.rt:127:32
 mul-head-good : tie.Need-mul-head-good Inv-loop μ-loop
 mul-head-good c = search needs
 
--- src/runs.rt:127:32
 sub-head-good : tie.Need-sub-head-good Inv-loop μ-loop
 sub-head-good c = search needs
 
--- src/runs.rt:127:32
 part-head-good-start : tie.Need-part-head-good-start Inv-loop μ-loop
 part-head-good-start c = search needs
 
--- src/runs.rt:127:32
 part-head-good-end : tie.Need-part-head-good-end Inv-loop μ-loop
 part-head-good-end c = search needs
 
--- src/runs.rt:127:54
 sub-head-good-2 : tie.Need-sub-head-good-2 Inv-loop μ-loop
 sub-head-good-2 c = search needs
 
--- src/runs.rt:127:12
 head-good-requires : tie.Need-head-good-requires Inv-loop μ-loop
 head-good-requires c κs = let a = c .before .before .before .before .before .before .args in let p = c .before .before .loop in let v = p .inv in (c .before .before .before .before .before .before .pre .0, rw (rest-all (a .runs .now) (p .r * 3), length-drop) (omega (arith, c .before .before .before .before .before .before .pre, c .before .loop-test .taken, v .at, v .most)), c .before .before .before .before .before .before .pre .3, v .b-room)
 
--- src/runs.rt:128:18
 trits-of-requires : tie.Need-trits-of-requires Inv-loop μ-loop
 trits-of-requires c κs = search needs
 
--- src/runs.rt:128:13
 add-e : tie.Need-add-e Inv-loop μ-loop
 add-e c = search needs
 
--- src/runs.rt:129:32
 add-word-of : tie.Need-add-word-of Inv-loop μ-loop
 add-word-of c = search needs
 
--- src/runs.rt:129:18
 word-of-requires : tie.Need-word-of-requires Inv-loop μ-loop
 word-of-requires c κs = search needs
 
--- src/runs.rt:129:13
 add-w : tie.Need-add-w Inv-loop μ-loop
 add-w c = search needs
 
--- src/runs.rt:130:13
 add-r : tie.Need-add-r Inv-loop μ-loop
 add-r c = search needs
 
--- src/runs.rt:131:13
 sub-left : tie.Need-sub-left Inv-loop μ-loop
 sub-left c = search needs
 
--- src/runs.rt:125:5
 loop-less : tie.Need-loop-less Inv-loop μ-loop
 loop-less c = search needs
 
--- src/runs.rt:125:5
 loop-again : tie.Need-loop-again Inv-loop μ-loop
 loop-again c = let a = c .before .before .before .before .before .before .before .before .before .before .args in let p = c .before .before .before .before .before .before .loop in let g = (rw (rest-all (a .runs .now) (p .r * 3)) at (sym (c .before .before .before .head-good .ensures) ∙ c .before .before .if1 .taken)) in walking-on (p .inv) (c .before .before .before .before .before .loop-test .taken) g _ _ (c .before .trits-of .ensures .0) (c .word-of .ensures .0) (c .word-of .ensures .1)
 
--- src/runs.rt:133:13
 returns : tie.Need-returns Inv-loop μ-loop
 returns c = let a = c .before .before .before .before .before .before .before .before .args in let p = c .before .before .before .before .loop in let g = (rw (rest-all (a .runs .now) (p .r * 3)) at (sym (c .before .head-good .ensures) ∙ c .if1 .left)) in (operand-off (widthsIn (a .n) (a .cells .now)) (a .bits .now) (a .runs .now) (p .r) (p .e) (p .w) (p .left) (c .before .before .before .loop-test .taken) g ∙ p .inv .is, omega arith, omega arith)
 
--- src/runs.rt:109:1
 returns-2 : tie.Need-returns-2 Inv-loop μ-loop
 returns-2 c = let a = c .before .before .before .before .before .args in let p = c .before .loop in (operand-end (widthsIn (a .n) (a .cells .now)) (a .bits .now) (a .runs .now) (p .r) (p .e) (p .w) (p .left) (c .loop-test .left) ∙ p .inv .is, omega (arith, p .inv .w-room, p .inv .most, c .before .before .before .before .before .pre), p .inv .b-room)
 

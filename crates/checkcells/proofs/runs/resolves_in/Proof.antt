@@ -7,27 +7,21 @@ use Rattle.checkcells.proofs.runs.resolves_in.Reads as reads
 use Rattle.checkcells.proofs.runs.resolves_in.Lts as lts
 use Rattle.pools.proofs.word_of.Reads as word-of-reads
 
--- src/runs.rt:27:16
 add-result : tie.Need-add-result
 add-result c = search needs
 
--- src/runs.rt:27:49
 mul-word-of : tie.Need-mul-word-of
 mul-word-of c = search needs
 
--- src/runs.rt:27:49
 add-word-of : tie.Need-add-word-of
 add-word-of c = search needs
 
--- src/runs.rt:27:34
 word-of-requires : tie.Need-word-of-requires
 word-of-requires c κs = search needs
 
--- src/runs.rt:27:9
 returns : tie.Need-returns
 returns c = let a = c .before .before .before .args in rw (c .word-of .ensures .0) (resolves-at (a .n) (a .row) (a .offset) (a .width) (a .cells .now) (c .before .if1 .taken))
 
--- src/runs.rt:22:1
 returns-2 : tie.Need-returns-2
 returns-2 c = let a = c .before .before .args in resolves-past (a .n) (a .row) (a .offset) (a .width) (a .cells .now) (c .if1 .left)
 

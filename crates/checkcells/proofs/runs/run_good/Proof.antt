@@ -8,39 +8,30 @@ use Rattle.checkcells.proofs.runs.const_good.Reads as const-good-reads
 use Rattle.checkcells.proofs.runs.resolves_in.Reads as resolves-in-reads
 use Rattle.pools.proofs.word_of.Reads as word-of-reads
 
--- src/runs.rt:49:9
 word-of-requires : tie.Need-word-of-requires
 word-of-requires c κs = search needs
 
--- src/runs.rt:50:9
 word-of-requires-2 : tie.Need-word-of-requires-2
 word-of-requires-2 c κs = search needs
 
--- src/runs.rt:51:9
 word-of-requires-3 : tie.Need-word-of-requires-3
 word-of-requires-3 c κs = search needs
 
--- src/runs.rt:53:9
 returns : tie.Need-returns
 returns c = rw (← c .before .word-of3 .ensures .0, lt-leb 1 _ (c .if1 .taken))
 
--- src/runs.rt:56:9
 const-good-requires : tie.Need-const-good-requires
 const-good-requires c κs = search needs
 
--- src/runs.rt:56:9
 returns-2 : tie.Need-returns-2
 returns-2 c = rw (← c .before .before .before .word-of3 .ensures .0, ← c .before .before .before .before .word-of2 .ensures .0, ← c .before .before .before .before .before .word-of .ensures .0, le-leb 1 _ (c .before .before .if1 .left), eq-eqb _ 0 (c .before .if2 .taken)) (c .const-good .ensures)
 
--- src/runs.rt:58:27
 sub-resolves-in : tie.Need-sub-resolves-in
 sub-resolves-in c = search needs
 
--- src/runs.rt:58:5
 resolves-in-requires : tie.Need-resolves-in-requires
 resolves-in-requires c κs = search needs
 
--- src/runs.rt:45:1
 returns-3 : tie.Need-returns-3
 returns-3 c = rw (← c .before .before .before .word-of3 .ensures .0, ← c .before .before .before .before .word-of2 .ensures .0, ← c .before .before .before .before .before .word-of .ensures .0, le-leb 1 _ (c .before .before .if1 .left), ne-eqb _ 0 (c .before .if2 .left)) (c .resolves-in .ensures)
 

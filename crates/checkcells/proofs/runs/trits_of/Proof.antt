@@ -9,27 +9,21 @@ use Rattle.checkcells.proofs.runs.trits_of.Reads as reads
 use Rattle.checkcells.proofs.runs.trits_of.Lts as lts
 use Rattle.pools.proofs.word_of.Reads as word-of-reads
 
--- src/runs.rt:102:8
 mul-if1 : tie.Need-mul-if1
 mul-if1 c = search needs
 
--- src/runs.rt:102:8
 shared-slice-read-if1 : tie.Need-shared-slice-read-if1
 shared-slice-read-if1 c = search needs
 
--- src/runs.rt:103:30
 add-word-of : tie.Need-add-word-of
 add-word-of c = search needs
 
--- src/runs.rt:103:9
 word-of-requires : tie.Need-word-of-requires
 word-of-requires c κs = search needs
 
--- src/runs.rt:103:9
 returns : tie.Need-returns
 returns c = (rw (getD-drop, add-zero, eq-eqb _ 0 (c .before .if1 .taken), getD-drop) (c .word-of .ensures .0), c .word-of .ensures .1)
 
--- src/runs.rt:98:1
 returns-2 : tie.Need-returns-2
 returns-2 c = (rw (getD-drop, add-zero, ne-eqb _ 0 (c .if1 .left)), omega arith)
 

@@ -19,75 +19,57 @@ Inv-loop ios n names i₀ s₀ i s = Walking ios names n i s
 abbrev μ-loop : tie.MeasureT-loop
 μ-loop ios n names i₀ s₀ i s = n - i
 
--- src/ios.rt:46:5
 loop-holds : tie.Need-loop-holds Inv-loop μ-loop
 loop-holds c = let a = c .before .args in record { row = omega arith; s-room = c .before .pre .1; is = let e : a .n - 0 ≡ a .n = omega arith in rw e }
 
--- src/ios.rt:47:18
 mul-at : tie.Need-mul-at Inv-loop μ-loop
 mul-at c = search needs
 
--- src/ios.rt:48:20
 mul-io-good : tie.Need-mul-io-good Inv-loop μ-loop
 mul-io-good c = search needs
 
--- src/ios.rt:48:20
 sub-io-good : tie.Need-sub-io-good Inv-loop μ-loop
 sub-io-good c = search needs
 
--- src/ios.rt:48:20
 part-io-good-start : tie.Need-part-io-good-start Inv-loop μ-loop
 part-io-good-start c = search needs
 
--- src/ios.rt:48:20
 part-io-good-end : tie.Need-part-io-good-end Inv-loop μ-loop
 part-io-good-end c = search needs
 
--- src/ios.rt:48:12
 io-good-requires : tie.Need-io-good-requires Inv-loop μ-loop
 io-good-requires c κs = let a = c .before .before .before .before .args in (rw (rest-all (a .ios .now) (c .before .before .loop .i * 3), length-drop) (omega (arith, c .before .before .before .before .pre, c .before .loop-test .taken)), c .before .before .loop .inv .s-room)
 
--- src/ios.rt:49:31
 add-word-of : tie.Need-add-word-of Inv-loop μ-loop
 add-word-of c = search needs
 
--- src/ios.rt:49:18
 word-of-requires : tie.Need-word-of-requires Inv-loop μ-loop
 word-of-requires c κs = search needs
 
--- src/ios.rt:49:13
 add-s : tie.Need-add-s Inv-loop μ-loop
 add-s c = search needs
 
--- src/ios.rt:50:13
 add-i : tie.Need-add-i Inv-loop μ-loop
 add-i c = search needs
 
--- src/ios.rt:46:5
 loop-less : tie.Need-loop-less Inv-loop μ-loop
 loop-less c = search needs
 
--- src/ios.rt:46:5
 loop-again : tie.Need-loop-again Inv-loop μ-loop
 loop-again c = let a = c .before .before .before .before .before .before .before .args in walking-on (c .before .before .before .before .before .loop .inv) (c .before .before .before .before .loop-test .taken) (rw (rest-all (a .ios .now) (c .before .before .before .before .before .loop .i * 3)) at (sym (c .before .before .io-good .ensures) ∙ c .before .if1 .taken)) _ (c .word-of .ensures .0)
 
--- src/ios.rt:52:13
 returns : tie.Need-returns Inv-loop μ-loop
 returns c = let a = c .before .before .before .before .before .before .args in let p = c .before .before .before .before .loop in (ios-off (a .ios .now) (p .i) (p .s) (a .n) (c .before .before .before .loop-test .taken) (rw (rest-all (a .ios .now) (p .i * 3)) at (sym (c .before .io-good .ensures) ∙ c .if1 .left)) ∙ p .inv .is, omega arith)
 
--- src/ios.rt:55:25
 mul-blank-words : tie.Need-mul-blank-words Inv-loop μ-loop
 mul-blank-words c = search needs
 
--- src/ios.rt:55:8
 blank-words-requires : tie.Need-blank-words-requires Inv-loop μ-loop
 blank-words-requires c κs = search needs
 
--- src/ios.rt:56:9
 returns-2 : tie.Need-returns-2 Inv-loop μ-loop
 returns-2 c = let a = c .before .before .before .before .before .args in let p = c .before .before .before .loop in ((rw (sym (c .before .blank-words .ensures) ∙ c .if2 .taken) at (ios-end (a .ios .now) (p .i) (p .s) (a .n) (c .before .before .loop-test .left))) ∙ p .inv .is, p .inv .s-room)
 
--- src/ios.rt:40:1
 returns-3 : tie.Need-returns-3 Inv-loop μ-loop
 returns-3 c = let a = c .before .before .before .before .before .args in let p = c .before .before .before .loop in ((rw (sym (c .before .blank-words .ensures) ∙ c .if2 .left) at (ios-end (a .ios .now) (p .i) (p .s) (a .n) (c .before .before .loop-test .left))) ∙ p .inv .is, omega arith)
 

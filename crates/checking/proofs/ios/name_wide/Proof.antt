@@ -5,11 +5,9 @@ use Rattle.checking.proofs.ios.name_wide.Tie as tie
 use Rattle.checking.proofs.ios.name_wide.Reads as reads
 use Rattle.checking.proofs.ios.name_wide.Lts as lts
 
--- src/ios.rt:22:9
 returns : tie.Need-returns
 returns c = search tests
 
--- src/ios.rt:18:1
 returns-2 : tie.Need-returns-2
 returns-2 c = search tests
 

@@ -7,23 +7,18 @@ use Rattle.pools.proofs.both.Reads as both-reads
 use Rattle.blanks.proofs.no_bytes.Reads as no-bytes-reads
 use Rattle.blanks.proofs.no_words.Reads as no-words-reads
 
--- src/parts.rt:64:28
 mul-no-words : tie.Need-mul-no-words
 mul-no-words c = search needs
 
--- src/parts.rt:64:10
 no-words-requires : tie.Need-no-words-requires
 no-words-requires c κs = search needs
 
--- src/parts.rt:64:36
 no-bytes-requires : tie.Need-no-bytes-requires
 no-bytes-requires c κs = search needs
 
--- src/parts.rt:64:5
 both-requires : tie.Need-both-requires
 both-requires c κs = search needs
 
--- src/parts.rt:60:1
 returns : tie.Need-returns
 returns c = rw (c .both .ensures, c .before .no-bytes .ensures, c .before .before .no-words .ensures)
 

@@ -16,54 +16,42 @@ use Rattle.checking.proofs.parts.blank_behind.Reads as blank-behind-rea
 use Rattle.checking.proofs.parts.names_distinct.Reads as names-distinct-reads
 use Rattle.pools.proofs.both.Reads as both-reads
 
--- src/parts.rt:91:9
 returns : tie.Need-returns
 unfolding cellsPart
 returns c = rw (lt-leb _ 512 (c .if1 .taken))
 
--- src/parts.rt:93:11
 cells-good-requires : tie.Need-cells-good-requires
 cells-good-requires c κs = search needs
 
--- src/parts.rt:94:25
 enum-told : tie.Need-enum-told
 enum-told c = search needs
 
--- src/parts.rt:95:21
 enum-known-x : tie.Need-enum-known-x
 enum-known-x c = search needs
 
--- src/parts.rt:97:17
 both-requires : tie.Need-both-requires
 both-requires c κs = search needs
 
--- src/parts.rt:98:22
 blank-behind-requires : tie.Need-blank-behind-requires
 blank-behind-requires c κs = let l : runsUpto (c .before .before .before .before .cells-good .result) ≤ 4096 = c .before .before .before .before .cells-good .ensures .1 in rw (c .before .before .x .given .1) at l
 
--- src/parts.rt:98:54
 names-distinct-requires : tie.Need-names-distinct-requires
 names-distinct-requires c κs = let a = c .before .before .before .before .before .before .before .before .before .before .before .args in let w = sym (c .before .before .before .before .before .cells-good .ensures .0) ∙ c .before .before .before .x .given .1 in cells-named (a .strings .now) (a .n) (a .cells .now) (widthsIn (a .n) (a .cells .now)) (a .bits .now) (a .runs .now) (a .metas) (a .s) _ _ _ _ _ (c .before .before .before .before .before .before .before .before .before .before .before .pre .3) (omega (arith, c .before .before .before .before .before .before .before .before .before .before .before .pre .0, c .before .before .before .before .before .before .if1 .left)) w
 
--- src/parts.rt:98:17
 both-requires-2 : tie.Need-both-requires-2
 both-requires-2 c κs = search needs
 
--- src/parts.rt:96:16
 both-requires-3 : tie.Need-both-requires-3
 both-requires-3 c κs = search needs
 
--- src/parts.rt:100:17
 returns-2 : tie.Need-returns-2
 unfolding cellsPart
 returns-2 c = let w = sym (c .before .before .before .before .before .before .before .before .before .cells-good .ensures .0) ∙ c .before .before .before .before .before .before .before .x .given .1 in let e = rw (c .before .before .both2 .ensures, c .before .before .before .before .before .both .ensures, c .before .before .before .before .blank-behind .ensures, c .before .before .before .names-distinct .ensures) at (sym (c .before .both3 .ensures) ∙ c .if2 .taken) in rw (le-leb _ 512 (c .before .before .before .before .before .before .before .before .before .before .if1 .left), w, e)
 
--- src/parts.rt:78:1
 returns-3 : tie.Need-returns-3
 unfolding cellsPart
 returns-3 c = let w = sym (c .before .before .cells-good .ensures .0) ∙ c .enum-told .given .1 in rw (le-leb _ 512 (c .before .before .before .if1 .left), w)
 
--- src/parts.rt:78:1
 returns-4 : tie.Need-returns-4
 unfolding cellsPart
 returns-4 c = let w = sym (c .before .before .before .before .before .before .before .before .before .cells-good .ensures .0) ∙ c .before .before .before .before .before .before .before .x .given .1 in let e = rw (c .before .before .both2 .ensures, c .before .before .before .before .before .both .ensures, c .before .before .before .before .blank-behind .ensures, c .before .before .before .names-distinct .ensures) at (sym (c .before .both3 .ensures) ∙ c .if2 .left) in rw (le-leb _ 512 (c .before .before .before .before .before .before .before .before .before .before .if1 .left), w, e)

@@ -14,46 +14,36 @@ use Rattle.blanks.proofs.no_bytes.Reads as no-bytes-reads
 use Rattle.blanks.proofs.no_words.Reads as no-words-reads
 use Rattle.checkmeta.proofs.rows.metas_good.Reads as metas-good-reads
 
--- src/parts.rt:28:9
 returns : tie.Need-returns
 unfolding metasPart
 returns c = (rw (lt-leb _ 512 (c .if1 .taken)), omega arith)
 
--- src/parts.rt:30:11
 metas-good-requires : tie.Need-metas-good-requires
 metas-good-requires c κs = search needs
 
--- src/parts.rt:31:25
 enum-told : tie.Need-enum-told
 enum-told c = search needs
 
--- src/parts.rt:32:21
 enum-known-s : tie.Need-enum-known-s
 enum-known-s c = search needs
 
--- src/parts.rt:33:21
 no-words-requires : tie.Need-no-words-requires
 no-words-requires c κs = search needs
 
--- src/parts.rt:33:46
 no-bytes-requires : tie.Need-no-bytes-requires
 no-bytes-requires c κs = search needs
 
--- src/parts.rt:33:16
 both-requires : tie.Need-both-requires
 both-requires c κs = search needs
 
--- src/parts.rt:34:17
 returns-2 : tie.Need-returns-2
 unfolding metasPart
 returns-2 c = let l : stringsUpto (c .before .before .before .before .before .before .before .metas-good .result) ≤ 16384 = c .before .before .before .before .before .before .before .metas-good .ensures .1 in let w = sym (c .before .before .before .before .before .before .before .metas-good .ensures .0) ∙ c .before .before .before .before .before .s .given .1 in let e = rw (c .before .before .before .no-words .ensures, c .before .before .no-bytes .ensures) at (sym (c .before .both .ensures) ∙ c .if2 .taken) in (rw (le-leb _ 512 (c .before .before .before .before .before .before .before .before .if1 .left), w, e), rw (c .before .before .before .before .before .s .given .1) at l)
 
--- src/parts.rt:23:1
 returns-3 : tie.Need-returns-3
 unfolding metasPart
 returns-3 c = let w = sym (c .before .before .metas-good .ensures .0) ∙ c .enum-told .given .1 in (rw (le-leb _ 512 (c .before .before .before .if1 .left), w), omega arith)
 
--- src/parts.rt:23:1
 returns-4 : tie.Need-returns-4
 unfolding metasPart
 returns-4 c = let w = sym (c .before .before .before .before .before .before .before .metas-good .ensures .0) ∙ c .before .before .before .before .before .s .given .1 in let e = rw (c .before .before .before .no-words .ensures, c .before .before .no-bytes .ensures) at (sym (c .before .both .ensures) ∙ c .if2 .left) in (rw (le-leb _ 512 (c .before .before .before .before .before .before .before .before .if1 .left), w, e), omega arith)

@@ -5,31 +5,24 @@ use Rattle.checkmeta.proofs.fields.bad_range.Tie as tie
 use Rattle.checkmeta.proofs.fields.bad_range.Reads as reads
 use Rattle.checkmeta.proofs.fields.bad_range.Lts as lts
 
--- src/fields.rt:87:9
 returns : tie.Need-returns
 returns c = search tests
 
--- src/fields.rt:90:9
 returns-2 : tie.Need-returns-2
 returns-2 c = search tests
 
--- src/fields.rt:93:9
 returns-3 : tie.Need-returns-3
 returns-3 c = search tests
 
--- src/fields.rt:96:9
 returns-4 : tie.Need-returns-4
 returns-4 c = search tests
 
--- src/fields.rt:99:9
 returns-5 : tie.Need-returns-5
 returns-5 c = search tests
 
--- src/fields.rt:102:9
 returns-6 : tie.Need-returns-6
 returns-6 c = search tests
 
--- src/fields.rt:83:1
 returns-7 : tie.Need-returns-7
 returns-7 c = search tests
 

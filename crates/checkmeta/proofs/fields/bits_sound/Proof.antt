@@ -5,15 +5,12 @@ use Rattle.checkmeta.proofs.fields.bits_sound.Tie as tie
 use Rattle.checkmeta.proofs.fields.bits_sound.Reads as reads
 use Rattle.checkmeta.proofs.fields.bits_sound.Lts as lts
 
--- src/fields.rt:64:13
 returns : tie.Need-returns
 returns c = search tests
 
--- src/fields.rt:66:9
 returns-2 : tie.Need-returns-2
 returns-2 c = search tests
 
--- src/fields.rt:59:1
 returns-3 : tie.Need-returns-3
 returns-3 c = search tests
 

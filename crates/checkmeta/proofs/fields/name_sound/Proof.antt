@@ -5,19 +5,15 @@ use Rattle.checkmeta.proofs.fields.name_sound.Tie as tie
 use Rattle.checkmeta.proofs.fields.name_sound.Reads as reads
 use Rattle.checkmeta.proofs.fields.name_sound.Lts as lts
 
--- src/fields.rt:30:9
 returns : tie.Need-returns
 returns c = search tests
 
--- src/fields.rt:33:9
 returns-2 : tie.Need-returns-2
 returns-2 c = search tests
 
--- src/fields.rt:36:9
 returns-3 : tie.Need-returns-3
 returns-3 c = search tests
 
--- src/fields.rt:26:1
 returns-4 : tie.Need-returns-4
 returns-4 c = search tests
 

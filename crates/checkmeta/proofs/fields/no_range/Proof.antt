@@ -5,19 +5,15 @@ use Rattle.checkmeta.proofs.fields.no_range.Tie as tie
 use Rattle.checkmeta.proofs.fields.no_range.Reads as reads
 use Rattle.checkmeta.proofs.fields.no_range.Lts as lts
 
--- src/fields.rt:111:9
 returns : tie.Need-returns
 returns c = search tests
 
--- src/fields.rt:114:9
 returns-2 : tie.Need-returns-2
 returns-2 c = search tests
 
--- src/fields.rt:117:9
 returns-3 : tie.Need-returns-3
 returns-3 c = search tests
 
--- src/fields.rt:107:1
 returns-4 : tie.Need-returns-4
 returns-4 c = search tests
 

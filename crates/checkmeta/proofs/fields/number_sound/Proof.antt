@@ -5,15 +5,12 @@ use Rattle.checkmeta.proofs.fields.number_sound.Tie as tie
 use Rattle.checkmeta.proofs.fields.number_sound.Reads as reads
 use Rattle.checkmeta.proofs.fields.number_sound.Lts as lts
 
--- src/fields.rt:75:9
 returns : tie.Need-returns
 returns c = search tests
 
--- src/fields.rt:78:9
 returns-2 : tie.Need-returns-2
 returns-2 c = search tests
 
--- src/fields.rt:71:1
 returns-3 : tie.Need-returns-3
 returns-3 c = search tests
 

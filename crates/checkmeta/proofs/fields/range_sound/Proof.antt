@@ -7,23 +7,18 @@ use Rattle.checkmeta.proofs.fields.range_sound.Lts as lts
 use Rattle.checkmeta.proofs.fields.bad_range.Reads as bad-range-reads
 use Rattle.checkmeta.proofs.fields.no_range.Reads as no-range-reads
 
--- src/fields.rt:126:12
 bad-range-requires : tie.Need-bad-range-requires
 bad-range-requires c κs = search needs
 
--- src/fields.rt:127:13
 returns : tie.Need-returns
 returns c = rw (eq-eqb _ 2 (c .before .before .if1 .taken), ← c .before .bad-range .ensures, c .if2 .taken)
 
--- src/fields.rt:129:9
 returns-2 : tie.Need-returns-2
 returns-2 c = rw (eq-eqb _ 2 (c .before .before .if1 .taken), ← c .before .bad-range .ensures, c .if2 .left)
 
--- src/fields.rt:131:5
 no-range-requires : tie.Need-no-range-requires
 no-range-requires c κs = search needs
 
--- src/fields.rt:122:1
 returns-3 : tie.Need-returns-3
 returns-3 c = rw (ne-eqb _ 2 (c .before .if1 .left)) (c .no-range .ensures)
 

@@ -18,39 +18,30 @@ Inv-loop metas n members i₀ i = every (refers isMember (kindsIn n metas)) (dro
 abbrev μ-loop : tie.MeasureT-loop
 μ-loop metas n members i₀ i = length members - i
 
--- src/refs.rt:95:5
 loop-holds : tie.Need-loop-holds Inv-loop μ-loop
 loop-holds c = refl
 
--- src/refs.rt:96:32
 mul-refers-to : tie.Need-mul-refers-to Inv-loop μ-loop
 mul-refers-to c = search needs
 
--- src/refs.rt:96:32
 shared-slice-read-refers-to : tie.Need-shared-slice-read-refers-to Inv-loop μ-loop
 shared-slice-read-refers-to c = search needs
 
--- src/refs.rt:96:12
 refers-to-requires : tie.Need-refers-to-requires Inv-loop μ-loop
 refers-to-requires c κs = search needs
 
--- src/refs.rt:97:13
 add-i : tie.Need-add-i Inv-loop μ-loop
 add-i c = search needs
 
--- src/refs.rt:95:5
 loop-less : tie.Need-loop-less Inv-loop μ-loop
 loop-less c = search needs
 
--- src/refs.rt:95:5
 loop-again : tie.Need-loop-again Inv-loop μ-loop
 loop-again c = let p = c .before .before .before .before in let a = p .before .before .before .args in every-on (refers isMember (kindsIn (a .n) (a .metas .now))) (a .members .now) (p .loop .i) (c .before .before .before .loop-test .taken) (sym (c .before .refers-to .ensures) ∙ c .if1 .taken) ∙ p .loop .inv
 
--- src/refs.rt:99:13
 returns : tie.Need-returns Inv-loop μ-loop
 returns c = let p = c .before .before .before .before in let a = p .before .before .before .args in every-off (refers isMember (kindsIn (a .n) (a .metas .now))) (a .members .now) (p .loop .i) (c .before .before .before .loop-test .taken) (sym (c .before .refers-to .ensures) ∙ c .if1 .left) ∙ p .loop .inv
 
--- src/refs.rt:90:1
 returns-2 : tie.Need-returns-2 Inv-loop μ-loop
 returns-2 c = let p = c .before in let a = p .before .before .before .args in every-end (refers isMember (kindsIn (a .n) (a .metas .now))) (a .members .now) (p .loop .i) (c .loop-test .left) ∙ p .loop .inv
 

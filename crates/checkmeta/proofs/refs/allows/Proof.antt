@@ -5,35 +5,27 @@ use Rattle.checkmeta.proofs.refs.allows.Tie as tie
 use Rattle.checkmeta.proofs.refs.allows.Reads as reads
 use Rattle.checkmeta.proofs.refs.allows.Lts as lts
 
--- src/refs.rt:22:16
 enum-told : tie.Need-enum-told
 enum-told c = search needs
 
--- src/refs.rt:23:17
 returns : tie.Need-returns
 returns c = rw (c .before .enum-told .given .1, eq-eqb _ 1 (c .if1 .taken))
 
--- src/refs.rt:28:16
 enum-told-2 : tie.Need-enum-told-2
 enum-told-2 c = search needs
 
--- src/refs.rt:29:17
 returns-2 : tie.Need-returns-2
 returns-2 c = rw (c .before .enum-told2 .given .1, eq-eqb _ 3 (c .if2 .taken))
 
--- src/refs.rt:33:25
 enum-told-3 : tie.Need-enum-told-3
 enum-told-3 c = search needs
 
--- src/refs.rt:17:1
 returns-3 : tie.Need-returns-3
 returns-3 c = rw (c .before .enum-told .given .1, ne-eqb _ 1 (c .if1 .left))
 
--- src/refs.rt:17:1
 returns-4 : tie.Need-returns-4
 returns-4 c = rw (c .before .enum-told2 .given .1, ne-eqb _ 3 (c .if2 .left))
 
--- src/refs.rt:17:1
 returns-5 : tie.Need-returns-5
 returns-5 c = rw (c .enum-told3 .given .1)
 

@@ -9,31 +9,24 @@ use Rattle.checkmeta.proofs.refs.refers_to.Reads as reads
 use Rattle.checkmeta.proofs.refs.refers_to.Lts as lts
 use Rattle.checkmeta.proofs.refs.allows.Reads as allows-reads
 
--- src/refs.rt:44:9
 returns : tie.Need-returns
 returns c = rw (lt-leb _ _ (c .if1 .taken))
 
--- src/refs.rt:47:9
 returns-2 : tie.Need-returns-2
 returns-2 c = let a = c .before .before .before .args in refers-late (allowed (a .asks)) (a .metas .now) (a .n) (a .after) (c .if2 .taken)
 
--- src/refs.rt:49:24
 mul-allows : tie.Need-mul-allows
 mul-allows c = search needs
 
--- src/refs.rt:49:18
 mul-allows-2 : tie.Need-mul-allows-2
 mul-allows-2 c = search needs
 
--- src/refs.rt:49:18
 shared-slice-read-allows : tie.Need-shared-slice-read-allows
 shared-slice-read-allows c = search needs
 
--- src/refs.rt:49:5
 allows-requires : tie.Need-allows-requires
 allows-requires c κs = search needs
 
--- src/refs.rt:38:1
 returns-3 : tie.Need-returns-3
 returns-3 c = let a = c .before .before .before .before .before .args in c .allows .ensures ∙ refers-in (allowed (a .asks)) (a .metas .now) (a .n) (a .after) (c .before .before .before .if1 .left) (c .before .before .if2 .left)
 

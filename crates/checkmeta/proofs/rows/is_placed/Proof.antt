@@ -7,71 +7,54 @@ use Rattle.pools.proofs.both.Reads as both-reads
 use Rattle.pools.proofs.lies_at.Reads as lies-at-reads
 use Rattle.pools.proofs.word_of.Reads as word-of-reads
 
--- src/rows.rt:82:9
 word-of-requires : tie.Need-word-of-requires
 word-of-requires c κs = search needs
 
--- src/rows.rt:83:26
 word-of-requires-2 : tie.Need-word-of-requires-2
 word-of-requires-2 c κs = search needs
 
--- src/rows.rt:83:19
 add-strings : tie.Need-add-strings
 add-strings c = search needs
 
--- src/rows.rt:84:9
 word-of-requires-3 : tie.Need-word-of-requires-3
 word-of-requires-3 c κs = search needs
 
--- src/rows.rt:86:32
 word-of-requires-4 : tie.Need-word-of-requires-4
 word-of-requires-4 c κs = search needs
 
--- src/rows.rt:86:14
 lies-at-requires : tie.Need-lies-at-requires
 lies-at-requires c κs = search needs
 
--- src/rows.rt:86:67
 add-both : tie.Need-add-both
 add-both c = search needs
 
--- src/rows.rt:86:9
 both-requires : tie.Need-both-requires
 both-requires c κs = search needs
 
--- src/rows.rt:88:30
 word-of-requires-5 : tie.Need-word-of-requires-5
 word-of-requires-5 c κs = search needs
 
--- src/rows.rt:88:47
 word-of-requires-6 : tie.Need-word-of-requires-6
 word-of-requires-6 c κs = search needs
 
--- src/rows.rt:88:13
 lies-at-requires-2 : tie.Need-lies-at-requires-2
 lies-at-requires-2 c κs = search needs
 
--- src/rows.rt:89:32
 word-of-requires-7 : tie.Need-word-of-requires-7
 word-of-requires-7 c κs = search needs
 
--- src/rows.rt:89:49
 word-of-requires-8 : tie.Need-word-of-requires-8
 word-of-requires-8 c κs = search needs
 
--- src/rows.rt:89:13
 lies-at-requires-3 : tie.Need-lies-at-requires-3
 lies-at-requires-3 c κs = search needs
 
--- src/rows.rt:87:9
 both-requires-2 : tie.Need-both-requires-2
 both-requires-2 c κs = search needs
 
--- src/rows.rt:85:5
 both-requires-3 : tie.Need-both-requires-3
 both-requires-3 c κs = search needs
 
--- src/rows.rt:78:1
 returns : tie.Need-returns
 returns c = rw (c .both3 .ensures, c .before .both2 .ensures, c .before .before .lies-at3 .ensures, c .before .before .before .word-of8 .ensures .0, c .before .before .before .before .word-of7 .ensures .0, c .before .before .before .before .before .lies-at2 .ensures, c .before .before .before .before .before .before .word-of6 .ensures .0, c .before .before .before .before .before .before .before .word-of5 .ensures .0, c .before .before .before .before .before .before .before .before .both .ensures, c .before .before .before .before .before .before .before .before .before .lies-at .ensures, c .before .before .before .before .before .before .before .before .before .before .word-of4 .ensures .0, c .before .before .before .before .before .before .before .before .before .before .before .word-of3 .ensures .0, c .before .before .before .before .before .before .before .before .before .before .before .before .word-of2 .ensures .0, c .before .before .before .before .before .before .before .before .before .before .before .before .before .word-of .ensures .0)
 

@@ -16,88 +16,67 @@ use Rattle.checkmeta.proofs.rows.sizes_sound.Reads as sizes-sound-reads
 use Rattle.checkmeta.proofs.rows.values_sound.Reads as values-sound-reads
 use Rattle.pools.proofs.word_of.Reads as word-of-reads
 
--- src/rows.rt:108:8
 is-placed-requires : tie.Need-is-placed-requires
 is-placed-requires c κs = search needs
 
--- src/rows.rt:109:24
 word-of-requires : tie.Need-word-of-requires
 word-of-requires c κs = search needs
 
--- src/rows.rt:109:20
 add-last : tie.Need-add-last
 add-last c = search needs
 
--- src/rows.rt:110:23
 word-of-requires-2 : tie.Need-word-of-requires-2
 word-of-requires-2 c κs = search needs
 
--- src/rows.rt:110:19
 add-end : tie.Need-add-end
 add-end c = search needs
 
--- src/rows.rt:112:18
 sizes-sound-requires : tie.Need-sizes-sound-requires
 sizes-sound-requires c κs = search needs
 
--- src/rows.rt:112:36
 values-sound-requires : tie.Need-values-sound-requires
 values-sound-requires c κs = search needs
 
--- src/rows.rt:112:13
 both-requires : tie.Need-both-requires
 both-requires c κs = search needs
 
--- src/rows.rt:113:40
 mul-all-members : tie.Need-mul-all-members
 mul-all-members c = search needs
 
--- src/rows.rt:113:40
 sub-all-members : tie.Need-sub-all-members
 sub-all-members c = search needs
 
--- src/rows.rt:113:40
 part-all-members-start : tie.Need-part-all-members-start
 part-all-members-start c = search needs
 
--- src/rows.rt:113:40
 part-all-members-end : tie.Need-part-all-members-end
 part-all-members-end c = let a = c .before .before .before .before .before .before .before .before .before .before .before .args in omega (arith, placed-is (a .s) (a .m) (a .b) (a .row .now) (sym (c .before .before .before .before .before .before .is-placed .ensures) ∙ c .before .before .before .before .before .if1 .taken) .members, c .before .before .before .before .word-of .ensures .0, c .before .before .before .before .before .before .before .before .before .before .before .pre)
 
--- src/rows.rt:113:18
 all-members-requires : tie.Need-all-members-requires
 all-members-requires c κs = search needs
 
--- src/rows.rt:113:70
 sub-all-trits : tie.Need-sub-all-trits
 sub-all-trits c = search needs
 
--- src/rows.rt:113:70
 part-all-trits-start : tie.Need-part-all-trits-start
 part-all-trits-start c = search needs
 
--- src/rows.rt:113:70
 part-all-trits-end : tie.Need-part-all-trits-end
 part-all-trits-end c = let a = c .before .before .before .before .before .before .before .before .before .before .before .before .before .args in omega (arith, placed-is (a .s) (a .m) (a .b) (a .row .now) (sym (c .before .before .before .before .before .before .before .before .is-placed .ensures) ∙ c .before .before .before .before .before .before .before .if1 .taken) .bits, c .before .before .before .before .before .word-of2 .ensures .0, c .before .before .before .before .before .before .before .before .before .before .before .before .before .pre)
 
--- src/rows.rt:113:60
 all-trits-requires : tie.Need-all-trits-requires
 all-trits-requires c κs = search needs
 
--- src/rows.rt:113:13
 both-requires-2 : tie.Need-both-requires-2
 both-requires-2 c κs = search needs
 
--- src/rows.rt:111:9
 both-requires-3 : tie.Need-both-requires-3
 both-requires-3 c κs = search needs
 
--- src/rows.rt:111:9
 returns : tie.Need-returns
 unfolding metaGood
 returns c = let a = c .before .before .before .before .before .before .before .before .before .before .before .before .before .before .before .before .before .args in rw (c .both3 .ensures, c .before .both2 .ensures, c .before .before .all-trits .ensures, c .before .before .before .before .all-members .ensures, c .before .before .before .before .before .before .both .ensures, c .before .before .before .before .before .before .before .values-sound .ensures, c .before .before .before .before .before .before .before .before .sizes-sound .ensures, part-is (a .members .now) (a .m) (c .before .before .before .before .before .before .before .before .before .before .word-of .result), part-is (a .bits .now) (a .b) (c .before .before .before .before .before .before .before .before .before .word-of2 .result), c .before .before .before .before .before .before .before .before .before .word-of2 .ensures .0, c .before .before .before .before .before .before .before .before .before .before .word-of .ensures .0, ← c .before .before .before .before .before .before .before .before .before .before .before .before .is-placed .ensures, c .before .before .before .before .before .before .before .before .before .before .before .if1 .taken)
 
--- src/rows.rt:95:1
 returns-2 : tie.Need-returns-2
 unfolding metaGood
 returns-2 c = rw (← c .before .is-placed .ensures, c .if1 .left)

@@ -10,63 +10,48 @@ use Rattle.checkmeta.proofs.fields.members_sound.Reads as members-sound
 use Rattle.checkmeta.proofs.fields.name_sound.Reads as name-sound-reads
 use Rattle.checkmeta.proofs.fields.text_sound.Reads as text-sound-reads
 
--- src/rows.rt:39:16
 shared-slice-read-kind : tie.Need-shared-slice-read-kind
 shared-slice-read-kind c = search needs
 
--- src/rows.rt:41:14
 kind-sound-requires : tie.Need-kind-sound-requires
 kind-sound-requires c κs = search needs
 
--- src/rows.rt:41:49
 shared-slice-read-name-sound : tie.Need-shared-slice-read-name-sound
 shared-slice-read-name-sound c = search needs
 
--- src/rows.rt:41:32
 name-sound-requires : tie.Need-name-sound-requires
 name-sound-requires c κs = search needs
 
--- src/rows.rt:41:9
 both-requires : tie.Need-both-requires
 both-requires c κs = search needs
 
--- src/rows.rt:43:30
 shared-slice-read-text-sound : tie.Need-shared-slice-read-text-sound
 shared-slice-read-text-sound c = search needs
 
--- src/rows.rt:43:13
 text-sound-requires : tie.Need-text-sound-requires
 text-sound-requires c κs = search needs
 
--- src/rows.rt:44:38
 shared-slice-read-members-sound : tie.Need-shared-slice-read-members-sound
 shared-slice-read-members-sound c = search needs
 
--- src/rows.rt:44:18
 members-sound-requires : tie.Need-members-sound-requires
 members-sound-requires c κs = search needs
 
--- src/rows.rt:44:64
 shared-slice-read-bits-sound : tie.Need-shared-slice-read-bits-sound
 shared-slice-read-bits-sound c = search needs
 
--- src/rows.rt:44:47
 bits-sound-requires : tie.Need-bits-sound-requires
 bits-sound-requires c κs = search needs
 
--- src/rows.rt:44:13
 both-requires-2 : tie.Need-both-requires-2
 both-requires-2 c κs = search needs
 
--- src/rows.rt:42:9
 both-requires-3 : tie.Need-both-requires-3
 both-requires-3 c κs = search needs
 
--- src/rows.rt:40:5
 both-requires-4 : tie.Need-both-requires-4
 both-requires-4 c κs = search needs
 
--- src/rows.rt:35:1
 returns : tie.Need-returns
 returns c = rw (c .both4 .ensures, c .before .both3 .ensures, c .before .before .both2 .ensures, c .before .before .before .bits-sound .ensures, c .before .before .before .before .before .members-sound .ensures, c .before .before .before .before .before .before .before .text-sound .ensures, c .before .before .before .before .before .before .before .before .before .both .ensures, c .before .before .before .before .before .before .before .before .before .before .name-sound .ensures, c .before .before .before .before .before .before .before .before .before .before .before .before .kind-sound .ensures)
 

@@ -9,67 +9,51 @@ use Rattle.checkmeta.proofs.fields.range_sound.Reads as range-sound-rea
 use Rattle.checkmeta.proofs.refs.inside_sound.Reads as inside-sound-reads
 use Rattle.checkmeta.proofs.refs.source_sound.Reads as source-sound-reads
 
--- src/rows.rt:54:16
 shared-slice-read-kind : tie.Need-shared-slice-read-kind
 shared-slice-read-kind c = search needs
 
--- src/rows.rt:57:42
 shared-slice-read-inside-sound : tie.Need-shared-slice-read-inside-sound
 shared-slice-read-inside-sound c = search needs
 
--- src/rows.rt:57:13
 inside-sound-requires : tie.Need-inside-sound-requires
 inside-sound-requires c κs = search needs
 
--- src/rows.rt:58:42
 shared-slice-read-source-sound : tie.Need-shared-slice-read-source-sound
 shared-slice-read-source-sound c = search needs
 
--- src/rows.rt:58:13
 source-sound-requires : tie.Need-source-sound-requires
 source-sound-requires c κs = search needs
 
--- src/rows.rt:56:9
 both-requires : tie.Need-both-requires
 both-requires c κs = search needs
 
--- src/rows.rt:61:32
 shared-slice-read-number-sound : tie.Need-shared-slice-read-number-sound
 shared-slice-read-number-sound c = search needs
 
--- src/rows.rt:61:13
 number-sound-requires : tie.Need-number-sound-requires
 number-sound-requires c κs = search needs
 
--- src/rows.rt:62:31
 shared-slice-read-range-sound : tie.Need-shared-slice-read-range-sound
 shared-slice-read-range-sound c = search needs
 
--- src/rows.rt:62:40
 shared-slice-read-range-sound-2 : tie.Need-shared-slice-read-range-sound-2
 shared-slice-read-range-sound-2 c = search needs
 
--- src/rows.rt:62:49
 shared-slice-read-range-sound-3 : tie.Need-shared-slice-read-range-sound-3
 shared-slice-read-range-sound-3 c = search needs
 
--- src/rows.rt:62:58
 shared-slice-read-range-sound-4 : tie.Need-shared-slice-read-range-sound-4
 shared-slice-read-range-sound-4 c = search needs
 
--- src/rows.rt:62:13
 range-sound-requires : tie.Need-range-sound-requires
 range-sound-requires c κs = search needs
 
--- src/rows.rt:60:9
 both-requires-2 : tie.Need-both-requires-2
 both-requires-2 c κs = search needs
 
--- src/rows.rt:55:5
 both-requires-3 : tie.Need-both-requires-3
 both-requires-3 c κs = search needs
 
--- src/rows.rt:50:1
 returns : tie.Need-returns
 returns c = rw (c .both3 .ensures, c .before .both2 .ensures, c .before .before .range-sound .ensures, c .before .before .before .before .before .before .before .number-sound .ensures, c .before .before .before .before .before .before .before .before .before .both .ensures, c .before .before .before .before .before .before .before .before .before .before .source-sound .ensures, c .before .before .before .before .before .before .before .before .before .before .before .before .inside-sound .ensures)
 

@@ -15,103 +15,78 @@ Inv-loop t text rows₀ bits₀ work₀ seen₀ n₀ reader₀ left₀ rows bits
 abbrev μ-loop : tie.MeasureT-loop
 μ-loop t text rows₀ bits₀ work₀ seen₀ n₀ reader₀ left₀ rows bits work seen n reader left = left
 
--- src/declarations.rt:109:9
 no-tally-requires : tie.Need-no-tally-requires Inv-loop μ-loop
 no-tally-requires c κs = search needs
 
--- src/declarations.rt:113:20
 add-left : tie.Need-add-left Inv-loop μ-loop
 add-left c = search needs
 
--- src/declarations.rt:114:5
 loop-holds : tie.Need-loop-holds Inv-loop μ-loop
 loop-holds c = let p = c .before .before .before .before .before .before in let a = p .args in (refl, refl, refl, refl, go-start (a .text .now) (a .rows .now) (a .bits .now) (a .work .now) (a .seen .now) _ (c .no-tally .ensures) (p .pre .2) (p .pre .3))
 
--- src/declarations.rt:115:15
 take-next-requires : tie.Need-take-next-requires Inv-loop μ-loop
 take-next-requires c κs = let p = c .before .before .before .before .before .before .before .before .before .before .before .before in (p .pre .0, p .pre .1, go-some (c .before .before .before .before .before .loop .inv .4))
 
--- src/declarations.rt:116:27
 enum-known-g : tie.Need-enum-known-g Inv-loop μ-loop
 enum-known-g c = search needs
 
--- src/declarations.rt:117:17
 same-length : tie.Need-same-length Inv-loop μ-loop
 same-length c = search (needs, c .before .before .before .before .before .before .before .before .before .before .before .before .before .before .before .before .before .loop .inv .0)
 
--- src/declarations.rt:117:17
 same-length-2 : tie.Need-same-length-2 Inv-loop μ-loop
 same-length-2 c = search (needs, c .before .before .before .before .before .before .before .before .before .before .before .before .before .before .before .before .before .loop .inv .1)
 
--- src/declarations.rt:117:17
 same-length-3 : tie.Need-same-length-3 Inv-loop μ-loop
 same-length-3 c = search (needs, c .before .before .before .before .before .before .before .before .before .before .before .before .before .before .before .before .before .loop .inv .2)
 
--- src/declarations.rt:117:17
 same-length-4 : tie.Need-same-length-4 Inv-loop μ-loop
 same-length-4 c = search (needs, c .before .before .before .before .before .before .before .before .before .before .before .before .before .before .before .before .before .loop .inv .3)
 
--- src/declarations.rt:117:17
 returns : tie.Need-returns Inv-loop μ-loop
 returns c = go-stopped (c .before .before .before .before .before .before .before .before .before .before .before .before .before .before .before .before .before .loop .inv .4) (c .before .before .before .before .before .before .before .before .before .before .before .before .before .before .before .before .loop-test .taken) (c .before .before .before .before .before .before .before .before .before .before .before .take-next .ensures) _ (c .before .g .given .1)
 
--- src/declarations.rt:120:17
 enum-told : tie.Need-enum-told Inv-loop μ-loop
 enum-told c = search needs
 
--- src/declarations.rt:120:17
 same-length-5 : tie.Need-same-length-5 Inv-loop μ-loop
 same-length-5 c = search (needs, c .before .before .before .before .before .before .before .before .before .before .before .before .before .before .before .before .loop .inv .0)
 
--- src/declarations.rt:120:17
 same-length-6 : tie.Need-same-length-6 Inv-loop μ-loop
 same-length-6 c = search (needs, c .before .before .before .before .before .before .before .before .before .before .before .before .before .before .before .before .loop .inv .1)
 
--- src/declarations.rt:120:17
 same-length-7 : tie.Need-same-length-7 Inv-loop μ-loop
 same-length-7 c = search (needs, c .before .before .before .before .before .before .before .before .before .before .before .before .before .before .before .before .loop .inv .2)
 
--- src/declarations.rt:120:17
 same-length-8 : tie.Need-same-length-8 Inv-loop μ-loop
 same-length-8 c = search (needs, c .before .before .before .before .before .before .before .before .before .before .before .before .before .before .before .before .loop .inv .3)
 
--- src/declarations.rt:120:17
 returns-2 : tie.Need-returns-2 Inv-loop μ-loop
 returns-2 c = go-ended (c .before .before .before .before .before .before .before .before .before .before .before .before .before .before .before .before .loop .inv .4) (c .before .before .before .before .before .before .before .before .before .before .before .before .before .before .before .loop-test .taken) (c .before .before .before .before .before .before .before .before .before .before .take-next .ensures) (c .enum-told .given .1)
 
--- src/declarations.rt:122:24
 enum-known-m : tie.Need-enum-known-m Inv-loop μ-loop
 enum-known-m c = search needs
 
--- src/declarations.rt:127:9
 sub-left : tie.Need-sub-left Inv-loop μ-loop
 sub-left c = search needs
 
--- src/declarations.rt:114:5
 loop-less : tie.Need-loop-less Inv-loop μ-loop
 loop-less c = search needs
 
--- src/declarations.rt:114:5
 loop-again : tie.Need-loop-again Inv-loop μ-loop
 loop-again c = let l = c .before .before .before .before .before .before .before .before .before .before .before .before .before .before .before .before .before .loop in (search (needs, l .inv .0), search (needs, l .inv .1), search (needs, l .inv .2), search (needs, l .inv .3), go-more (l .inv .4) (c .before .before .before .before .before .before .before .before .before .before .before .before .before .before .before .before .loop-test .taken) (c .before .before .before .before .before .before .before .before .before .before .before .take-next .ensures) _ _ (c .before .m .given .1))
 
--- src/declarations.rt:98:1
 same-length-9 : tie.Need-same-length-9 Inv-loop μ-loop
 same-length-9 c = c .before .loop .inv .0
 
--- src/declarations.rt:98:1
 same-length-10 : tie.Need-same-length-10 Inv-loop μ-loop
 same-length-10 c = c .before .loop .inv .1
 
--- src/declarations.rt:98:1
 same-length-11 : tie.Need-same-length-11 Inv-loop μ-loop
 same-length-11 c = c .before .loop .inv .2
 
--- src/declarations.rt:98:1
 same-length-12 : tie.Need-same-length-12 Inv-loop μ-loop
 same-length-12 c = c .before .loop .inv .3
 
--- src/declarations.rt:98:1
 returns-3 : tie.Need-returns-3 Inv-loop μ-loop
 returns-3 c = go-out (c .before .loop .inv .4) (c .loop-test .left)
 

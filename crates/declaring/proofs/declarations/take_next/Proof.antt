@@ -11,55 +11,42 @@ use Rattle.declaring.proofs.declarations.take_one.Reads as take-one-rea
 use Rattle.declaring.proofs.fresh.is_fresh.Reads as is-fresh-reads
 use Rattle.form.proofs.forms.declaration_with.Reads as declaration-with-reads
 
--- src/declarations.rt:87:11
 declaration-with-requires : tie.Need-declaration-with-requires
 declaration-with-requires c κs = search needs
 
--- src/declarations.rt:88:23
 enum-known-g : tie.Need-enum-known-g
 enum-known-g c = search needs
 
--- src/declarations.rt:89:22
 enum-told : tie.Need-enum-told
 enum-told c = search needs
 
--- src/declarations.rt:90:20
 enum-known-d : tie.Need-enum-known-d
 enum-known-d c = search needs
 
--- src/declarations.rt:91:17
 is-fresh-requires : tie.Need-is-fresh-requires
 is-fresh-requires c κs = formed (c .before .before .before .before .before .before .before .before .before .before .args .text .now) (c .before .before .before .before .before .before .before .before .before .before .args .reader .next .at) _ _ (sym (c .before .before .before .before .declaration-with .ensures) ∙ c .before .before .d .given .1)
 
--- src/declarations.rt:92:13
 take-one-requires : tie.Need-take-one-requires
 take-one-requires c κs = let s = c .before .before .before .before .before .before .before .before .before .before .before .before .before .before .before .before in let a = s .args in let p = s .pre .2 in let f = formed (c .before .before .before .before .before .before .before .before .before .before .before .before .before .before .before .before .args .text .now) (c .before .before .before .before .before .before .before .before .before .before .before .before .before .before .before .before .args .reader .next .at) _ _ (sym (c .before .before .before .before .before .before .before .before .before .before .declaration-with .ensures) ∙ c .before .before .before .before .before .before .before .before .d .given .1) in (s .pre .0, s .pre .1, record { so = p .so; noted = p .noted }, f, fresh-decl (a .text .now) (p .so) (a .n) (a .rows .now) (a .bits .now) (a .work .now) (p .noted) _ _ f (c .before .before .before .before .before .is-fresh .ensures .after (p .so) (p .marked) .0))
 
--- src/declarations.rt:74:1
 returns : tie.Need-returns
 returns c = next-refused _ (sym (c .before .before .before .declaration-with .ensures) ∙ c .before .g .given .1)
 
--- src/declarations.rt:74:1
 returns-2 : tie.Need-returns-2
 returns-2 c = next-ended (sym (c .before .before .declaration-with .ensures) ∙ c .enum-told .given .1)
 
--- src/declarations.rt:74:1
 same-length : tie.Need-same-length
 same-length c = search needs
 
--- src/declarations.rt:74:1
 same-length-2 : tie.Need-same-length-2
 same-length-2 c = search needs
 
--- src/declarations.rt:74:1
 same-length-3 : tie.Need-same-length-3
 same-length-3 c = search needs
 
--- src/declarations.rt:74:1
 same-length-4 : tie.Need-same-length-4
 same-length-4 c = search needs
 
--- src/declarations.rt:74:1
 returns-3 : tie.Need-returns-3
 returns-3 c = next-took (sym (c .before .before .before .before .before .before .before .before .before .before .before .before .before .before .before .before .before .declaration-with .ensures) ∙ c .before .before .before .before .before .before .before .before .before .before .before .before .before .before .before .d .given .1) (c .before .before .before .before .before .before .before .before .before .before .before .before .is-fresh .ensures) (c .before .before .before .before .before .before .take-one .ensures)
 

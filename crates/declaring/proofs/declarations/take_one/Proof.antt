@@ -6,47 +6,36 @@ use Rattle.declaring.proofs.declarations.take_one.Reads as reads
 use Rattle.declaring.proofs.declarations.take_one.Lts as lts
 use Rattle.declaring.proofs.notes.note.Reads as note-reads
 
--- src/declarations.rt:63:11
 note-requires : tie.Need-note-requires
 note-requires c κs = search needs
 
--- src/declarations.rt:64:25
 enum-known-g : tie.Need-enum-known-g
 enum-known-g c = search needs
 
--- src/declarations.rt:65:22
 enum-known-m : tie.Need-enum-known-m
 enum-known-m c = search needs
 
--- src/declarations.rt:50:1
 same-length : tie.Need-same-length
 same-length c = search needs
 
--- src/declarations.rt:50:1
 same-length-2 : tie.Need-same-length-2
 same-length-2 c = search needs
 
--- src/declarations.rt:50:1
 same-length-3 : tie.Need-same-length-3
 same-length-3 c = search needs
 
--- src/declarations.rt:50:1
 returns : tie.Need-returns
 returns c = one-refused (c .before .before .before .before .before .before .before .before .before .before .before .before .before .before .before .before .before .args .reader) (c .before .before .before .before .before .before .before .before .before .note .ensures) _ (c .before .g .given .1)
 
--- src/declarations.rt:50:1
 same-length-4 : tie.Need-same-length-4
 same-length-4 c = search needs
 
--- src/declarations.rt:50:1
 same-length-5 : tie.Need-same-length-5
 same-length-5 c = search needs
 
--- src/declarations.rt:50:1
 same-length-6 : tie.Need-same-length-6
 same-length-6 c = search needs
 
--- src/declarations.rt:50:1
 returns-2 : tie.Need-returns-2
 returns-2 c = one-more (c .before .before .before .before .before .before .before .before .before .before .before .before .before .before .before .before .before .args .reader) (c .before .before .before .before .before .before .before .before .before .note .ensures) _ (c .before .m .given .1)
 

@@ -11,47 +11,36 @@ use Rattle.declaring.proofs.fresh.mark_cell.Reads as mark-cell-reads
 use Rattle.declaring.proofs.fresh.mark_name.Reads as mark-name-reads
 use Rattle.declaring.proofs.notes.sort_of.Reads as sort-of-reads
 
--- src/fresh.rt:42:11
 sort-of-requires : tie.Need-sort-of-requires
 sort-of-requires c κs = search needs
 
--- src/fresh.rt:43:20
 enum-known-w : tie.Need-enum-known-w
 enum-known-w c = search needs
 
--- src/fresh.rt:43:26
 mark-cell-requires : tie.Need-mark-cell-requires
 mark-cell-requires c κs = subst (DeclIn (c .before .before .before .before .before .before .before .args .text .now)) (is-cell (c .before .before .before .before .before .before .before .args .d .decl) _ (sym (c .before .before .before .before .sort-of .ensures) ∙ c .before .before .w .given .1)) (c .before .before .before .before .before .before .before .pre .decl) .name
 
--- src/fresh.rt:44:19
 enum-known-name : tie.Need-enum-known-name
 enum-known-name c = search needs
 
--- src/fresh.rt:44:31
 mark-name-requires : tie.Need-mark-name-requires
 mark-name-requires c κs = subst (DeclIn (c .before .before .before .before .before .before .before .args .text .now)) (is-pad (c .before .before .before .before .before .before .before .args .d .decl) _ _ (sym (c .before .before .before .before .sort-of .ensures) ∙ c .before .before .name .given .1)) (c .before .before .before .before .before .before .before .pre .decl)
 
--- src/fresh.rt:45:27
 enum-told : tie.Need-enum-told
 enum-told c = search needs
 
--- src/fresh.rt:37:1
 same-length : tie.Need-same-length
 same-length c = search needs
 
--- src/fresh.rt:37:1
 returns : tie.Need-returns
 returns c = let a = c .before .before .before .before .before .before .before .before .before .before .args in cell-freshens (a .text .now) (a .d) (a .seen .now) _ (is-cell (c .before .before .before .before .before .before .before .before .before .before .args .d .decl) _ (sym (c .before .before .before .before .before .before .before .sort-of .ensures) ∙ c .before .before .before .before .before .w .given .1)) (c .before .before .mark-cell .ensures)
 
--- src/fresh.rt:37:1
 same-length-2 : tie.Need-same-length-2
 same-length-2 c = search needs
 
--- src/fresh.rt:37:1
 returns-2 : tie.Need-returns-2
 returns-2 c = let a = c .before .before .before .before .before .before .before .before .before .before .args in pad-freshens (a .text .now) (a .d) (a .seen .now) _ _ (is-pad (c .before .before .before .before .before .before .before .before .before .before .args .d .decl) _ _ (sym (c .before .before .before .before .before .before .before .sort-of .ensures) ∙ c .before .before .before .before .before .name .given .1)) (c .before .before .mark-name .ensures)
 
--- src/fresh.rt:37:1
 returns-3 : tie.Need-returns-3
 returns-3 c = let a = c .before .before .before .before .before .args in meta-freshens (a .text .now) (a .d) (a .seen .now) (is-metadata (a .d .decl) (sym (c .before .before .sort-of .ensures) ∙ c .enum-told .given .1))
 

@@ -8,27 +8,21 @@ use Rattle.declaring.proofs.fresh.mark_cell.Lts as lts
 use Rattle.declaring.proofs.fresh.mark_name.Reads as mark-name-reads
 use Rattle.kinds.proofs.has_name.Reads as has-name-reads
 
--- src/fresh.rt:30:8
 has-name-requires : tie.Need-has-name-requires
 has-name-requires c κs = search needs
 
--- src/fresh.rt:31:32
 cast-mark-name : tie.Need-cast-mark-name
 cast-mark-name c = search needs
 
--- src/fresh.rt:31:9
 mark-name-requires : tie.Need-mark-name-requires
 mark-name-requires c κs = c .before .before .before .before .before .before .pre (sym (c .before .before .has-name .ensures) ∙ c .before .if1 .taken)
 
--- src/fresh.rt:31:9
 same-length : tie.Need-same-length
 same-length c = search needs
 
--- src/fresh.rt:31:9
 returns : tie.Need-returns
 returns c = record { named = λ n. c .before .before .mark-name .ensures; nameless = λ n. never-both (sym (c .before .before .before .before .before .has-name .ensures) ∙ c .before .before .before .before .if1 .taken) n }
 
--- src/fresh.rt:24:1
 returns-2 : tie.Need-returns-2
 returns-2 c = record { named = λ n. never-both n (sym (c .before .has-name .ensures) ∙ c .if1 .left); nameless = λ n. (refl, refl) }
 

@@ -6,19 +6,15 @@ use Rattle.declaring.proofs.fresh.mark_name.Lts as lts
 use Rattle.namemarks.proofs.name_mark.Reads as name-mark-reads
 use Rattle.marking.proofs.is_new.Reads as is-new-reads
 
--- src/fresh.rt:21:18
 name-mark-requires : tie.Need-name-mark-requires
 name-mark-requires c κs = search needs
 
--- src/fresh.rt:21:5
 is-new-requires : tie.Need-is-new-requires
 is-new-requires c κs = search needs
 
--- src/fresh.rt:17:1
 same-length : tie.Need-same-length
 same-length c = search needs
 
--- src/fresh.rt:17:1
 returns : tie.Need-returns
 returns c = let m = c .before .before .before .name-mark .ensures in let n = c .before .before .is-new .ensures in record { new = rw m at (n .0); left = rw m at (n .1) }
 

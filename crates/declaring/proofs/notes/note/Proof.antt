@@ -11,74 +11,57 @@ use Rattle.ionotes.proofs.note_io.Reads as note-io-reads
 use Rattle.metas.proofs.note_meta.Reads as note-meta-reads
 use Rattle.declaring.proofs.notes.sort_of.Reads as sort-of-reads
 
--- src/notes.rt:54:11
 sort-of-requires : tie.Need-sort-of-requires
 sort-of-requires c κs = search needs
 
--- src/notes.rt:55:20
 enum-known-w : tie.Need-enum-known-w
 enum-known-w c = search needs
 
--- src/notes.rt:55:26
 note-cell-requires : tie.Need-note-cell-requires
 note-cell-requires c κs = let p = c .before .before .before .before .before .before .before .before .before .before .before .before in let e = is-cell (p .args .d .decl) _ (sym (c .before .before .before .before .before .before .sort-of .ensures) ∙ c .before .before .before .before .w .given .1) in (p .pre .0, p .pre .1, p .pre .2, p .pre .3, e, p .pre .4 .cell _ e)
 
--- src/notes.rt:56:19
 enum-known-name : tie.Need-enum-known-name
 enum-known-name c = search needs
 
--- src/notes.rt:56:35
 note-io-requires : tie.Need-note-io-requires
 note-io-requires c κs = let p = c .before .before .before .before .before .before .before .before .before .before in
     let e = is-pad (p .args .d .decl) _ _ (sym (c .before .before .before .before .sort-of .ensures) ∙ c .before .before .name .given .1) in
     let n = p .pre .2 in
     (p .pre .1, record { bits = p .args .bits .now; work = p .args .work .now; so = n .so; noted = n .noted }, subst (DeclIn (p .args .text .now)) e (p .pre .3 .decl), p .pre .4 .io _ _ e)
 
--- src/notes.rt:57:49
 enum-told : tie.Need-enum-told
 enum-told c = search needs
 
--- src/notes.rt:57:27
 note-meta-requires : tie.Need-note-meta-requires
 note-meta-requires c κs = let p = c .before .before .before .before .before .before .before .before .before .before .before in (p .pre .0, p .pre .1, p .pre .2, p .pre .3, is-metadata (p .args .d .decl) (sym (c .before .before .before .before .before .sort-of .ensures) ∙ c .before .before .before .enum-told .given .1))
 
--- src/notes.rt:40:1
 same-length : tie.Need-same-length
 same-length c = search needs
 
--- src/notes.rt:40:1
 same-length-2 : tie.Need-same-length-2
 same-length-2 c = search needs
 
--- src/notes.rt:40:1
 same-length-3 : tie.Need-same-length-3
 same-length-3 c = search needs
 
--- src/notes.rt:40:1
 returns : tie.Need-returns
 returns c = search needs
 
--- src/notes.rt:40:1
 same-length-4 : tie.Need-same-length-4
 same-length-4 c = search needs
 
--- src/notes.rt:40:1
 returns-2 : tie.Need-returns-2
 returns-2 c = pad-noted _ _ (is-pad (c .before .before .before .before .before .before .before .before .before .before .before .before .before .args .d .decl) _ _ (sym (c .before .before .before .before .before .before .before .sort-of .ensures) ∙ c .before .before .before .before .before .name .given .1)) (c .before .before .note-io .ensures)
 
--- src/notes.rt:40:1
 same-length-5 : tie.Need-same-length-5
 same-length-5 c = search needs
 
--- src/notes.rt:40:1
 same-length-6 : tie.Need-same-length-6
 same-length-6 c = search needs
 
--- src/notes.rt:40:1
 same-length-7 : tie.Need-same-length-7
 same-length-7 c = search needs
 
--- src/notes.rt:40:1
 returns-3 : tie.Need-returns-3
 returns-3 c = search needs
 

@@ -14,35 +14,27 @@ use Rattle.assigning.proofs.copy_bits.Reads as copy-bits-reads
 use Rattle.evaluating.proofs.good.refused.Reads as refused-reads
 use Rattle.evaluating.proofs.settle.settle.Reads as settle-reads
 
--- src/good.rt:70:62
 slice-aggregate-settle : tie.Need-slice-aggregate-settle
 slice-aggregate-settle c = search needs
 
--- src/good.rt:70:9
 settle-requires : tie.Need-settle-requires
 settle-requires c κs = search needs
 
--- src/good.rt:72:9
 refused-requires : tie.Need-refused-requires
 refused-requires c κs = search needs
 
--- src/good.rt:72:9
 returns : tie.Need-returns
 returns c = rw (c .refused .ensures) (no-room _ (c .before .before .before .before .before .before .before .before .before .before .before .args .outs .now) _ (told (c .before .before .before .settle .ensures)) (c .before .if1 .taken))
 
--- src/good.rt:74:15
 slice-aggregate-copy-bits : tie.Need-slice-aggregate-copy-bits
 slice-aggregate-copy-bits c = search needs
 
--- src/good.rt:74:5
 copy-bits-requires : tie.Need-copy-bits-requires
 copy-bits-requires c κs = let a = c .before .before .before .before .before .before .before .before .before .before .before .before .args in let p = c .before .before .before .before .settle .ensures in let m = evaluation-few (c .before .before .before .before .before .before .before .before .before .before .before .before .pre .0) (take (a .count) (a .order .now)) (a .ins .now) in (omega (arith, told p, m, put-length p, answer-long), omega (arith, c .before .before .if1 .left))
 
--- src/good.rt:56:1
 same-length : tie.Need-same-length
 same-length c = search needs
 
--- src/good.rt:56:1
 returns-2 : tie.Need-returns-2
 returns-2 c = let a = c .before .before .before .before .before .before .before .before .before .before .before .before .before .before .before .args in let p = c .before .before .before .before .before .before .before .settle .ensures in let m = evaluation-few (c .before .before .before .before .before .before .before .before .before .before .before .before .before .before .before .pre .0) (take (a .count) (a .order .now)) (a .ins .now) in some-room _ (a .outs .now) _ _ _ _ p (omega (arith, m, answer-long)) (c .before .before .before .before .before .if1 .left) (c .before .before .copy-bits .ensures)
 

@@ -8,23 +8,18 @@ use Rattle.evaluating.proofs.good.fits.Lts as lts
 use Rattle.assigning.proofs.count_inputs.Reads as count-inputs-reads
 use Rattle.pools.proofs.all_trits.Reads as all-trits-reads
 
--- src/good.rt:38:17
 count-inputs-requires : tie.Need-count-inputs-requires
 count-inputs-requires c κs = search needs
 
--- src/good.rt:38:17
 cast-count : tie.Need-cast-count
 cast-count c = search needs
 
--- src/good.rt:40:9
 returns : tie.Need-returns
 returns c = unfit-length _ (c .before .before .before .before .args .ins .now) (λ e. c .if1 .taken (e ∙ sym (c .before .count-inputs .ensures)))
 
--- src/good.rt:42:5
 all-trits-requires : tie.Need-all-trits-requires
 all-trits-requires c κs = search needs
 
--- src/good.rt:34:1
 returns-2 : tie.Need-returns-2
 returns-2 c = fit-trits _ (c .before .before .before .before .before .args .ins .now) _ (c .before .if1 .left ∙ c .before .before .count-inputs .ensures) (c .all-trits .ensures)
 

@@ -15,31 +15,24 @@ Inv-loop cells runs trits starts values n answer₀ at₀ i₀ answer at i = Gav
 abbrev μ-loop : tie.MeasureT-loop
 μ-loop cells runs trits starts values n answer₀ at₀ i₀ answer at i = n - i
 
--- src/settle.rt:54:5
 loop-holds : tie.Need-loop-holds Inv-loop μ-loop
 loop-holds c = let a = c .before .before .before .before .before .before .args in gave-none (a .cells .now) (heldRuns (a .runs .now) (a .trits .now)) (heldBits (a .starts .now) (a .values .now)) (a .n) (a .answer .now)
 
--- src/settle.rt:55:9
 give-row-requires : tie.Need-give-row-requires Inv-loop μ-loop
 give-row-requires c κs = (c .before .before .before .before .before .before .before .before .before .pre .0, omega (arith, c .before .loop-test .taken, c .before .before .before .before .before .before .before .before .before .pre .1), gave-room (c .before .before .loop .inv) (c .before .loop-test .taken) (c .before .before .before .before .before .before .before .before .before .pre .2))
 
--- src/settle.rt:56:9
 add-i : tie.Need-add-i Inv-loop μ-loop
 add-i c = omega (arith, c .before .before .before .before .loop-test .taken, c .before .before .before .before .before .before .before .before .before .before .before .before .pre .1)
 
--- src/settle.rt:54:5
 loop-less : tie.Need-loop-less Inv-loop μ-loop
 loop-less c = omega arith
 
--- src/settle.rt:54:5
 loop-again : tie.Need-loop-again Inv-loop μ-loop
 loop-again c = gave-more (c .before .before .before .before .before .loop .inv) (c .before .before .before .before .loop-test .taken) (c .before .before .give-row .ensures)
 
--- src/settle.rt:40:1
 same-length : tie.Need-same-length Inv-loop μ-loop
 same-length c = c .before .loop .inv .long
 
--- src/settle.rt:40:1
 returns : tie.Need-returns Inv-loop μ-loop
 returns c = gave-all (c .before .loop .inv) (c .loop-test .left)
 

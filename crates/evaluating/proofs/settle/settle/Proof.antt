@@ -11,51 +11,39 @@ use Rattle.assigning.proofs.start_rows.Reads as start-rows-reads
 use Rattle.evaluating.proofs.settle.give_outputs.Reads as give-outputs-reads
 use Rattle.evaluating.proofs.settle.work_out.Reads as work-out-reads
 
--- src/settle.rt:77:26
 slice-aggregate-start-rows : tie.Need-slice-aggregate-start-rows
 slice-aggregate-start-rows c = search needs
 
--- src/settle.rt:77:5
 start-rows-requires : tie.Need-start-rows-requires
 start-rows-requires c κs = search needs
 
--- src/settle.rt:78:27
 slice-aggregate-assign : tie.Need-slice-aggregate-assign
 slice-aggregate-assign c = search needs
 
--- src/settle.rt:78:5
 assign-requires : tie.Need-assign-requires
 assign-requires c κs = search needs
 
--- src/settle.rt:79:34
 slice-aggregate-work-out : tie.Need-slice-aggregate-work-out
 slice-aggregate-work-out c = search needs
 
--- src/settle.rt:79:57
 slice-aggregate-work-out-2 : tie.Need-slice-aggregate-work-out-2
 slice-aggregate-work-out-2 c = search needs
 
--- src/settle.rt:79:5
 work-out-requires : tie.Need-work-out-requires
 work-out-requires c κs = let a = c .before .before .before .before .before .before .before .before .before .before .before .before .before .before .args in let p = c .before .before .before .before .before .before .before .before .before .before .before .before .before .before .pre in (p .1, rows-sound (p .0) _ (a .order .now) (a .count) (starts-begin (a .cells .now) _ (a .n) (c .before .before .before .before .before .before .start-rows .ensures)) (p .2), values-long (a .n) (a .cells .now) (a .ins .now) _ (values-begin (a .cells .now) (a .ins .now) _ (a .n) (c .before .before .before .assign .ensures)))
 
--- src/settle.rt:80:38
 slice-aggregate-give-outputs : tie.Need-slice-aggregate-give-outputs
 slice-aggregate-give-outputs c = search needs
 
--- src/settle.rt:80:47
 slice-aggregate-give-outputs-2 : tie.Need-slice-aggregate-give-outputs-2
 slice-aggregate-give-outputs-2 c = search needs
 
--- src/settle.rt:80:5
 give-outputs-requires : tie.Need-give-outputs-requires
 give-outputs-requires c κs = let a = c .before .before .before .before .before .before .before .before .before .before .before .before .before .before .before .before .before .before .before .args in let p = c .before .before .before .before .before .before .before .before .before .before .before .before .before .before .before .before .before .before .before .pre in (p .0 .cells-long, p .0 .few, few-outputs (p .0) _ (a .answer .now) (p .4))
 
--- src/settle.rt:62:1
 same-length : tie.Need-same-length
 same-length c = search needs
 
--- src/settle.rt:62:1
 returns : tie.Need-returns
 returns c = let a = c .before .before .before .before .before .before .before .before .before .before .before .before .before .before .before .before .before .before .before .before .before .before .args in together (a .cells .now) (heldRuns (a .runs .now) (a .trits .now)) (a .n) _ (a .ins .now) _ _ _ (a .answer .now) _ _ (starts-begin (a .cells .now) _ (a .n) (c .before .before .before .before .before .before .before .before .before .before .before .before .before .before .start-rows .ensures)) (values-begin (a .cells .now) (a .ins .now) _ (a .n) (c .before .before .before .before .before .before .before .before .before .before .before .assign .ensures)) (c .before .before .before .before .before .before .before .work-out .ensures) (c .before .before .give-outputs .ensures)
 

@@ -18,35 +18,27 @@ Inv-loop cells runs trits starts order count values₀ i₀ values i = Worked ce
 abbrev μ-loop : tie.MeasureT-loop
 μ-loop cells runs trits starts order count values₀ i₀ values i = count - i
 
--- src/settle.rt:32:5
 loop-holds : tie.Need-loop-holds Inv-loop μ-loop
 loop-holds c = let a = c .before .before .before .before .before .before .args in worked-none (a .cells .now) (heldRuns (a .runs .now) (a .trits .now)) (a .starts .now) (a .order .now) (a .count) (a .values .now)
 
--- src/settle.rt:33:13
 word-of-requires : tie.Need-word-of-requires Inv-loop μ-loop
 word-of-requires c κs = omega (arith, c .loop-test .taken, c .before .before .before .before .before .before .before .before .pre .0)
 
--- src/settle.rt:34:9
 work-row-requires : tie.Need-work-row-requires Inv-loop μ-loop
 work-row-requires c κs = let a = c .before .before .before .before .before .before .before .before .before .before .args in (subst (RowSound (a .cells .now) (heldRuns (a .runs .now) (a .trits .now)) (a .starts .now)) (sym (c .before .word-of .ensures .0)) (c .before .before .before .before .before .before .before .before .before .before .pre .1 (c .before .before .before .loop .i) (c .before .before .loop-test .taken)), c .before .before .before .loop .inv .long ∙ c .before .before .before .before .before .before .before .before .before .before .pre .2)
 
--- src/settle.rt:35:9
 add-i : tie.Need-add-i Inv-loop μ-loop
 add-i c = search needs
 
--- src/settle.rt:32:5
 loop-less : tie.Need-loop-less Inv-loop μ-loop
 loop-less c = omega arith
 
--- src/settle.rt:32:5
 loop-again : tie.Need-loop-again Inv-loop μ-loop
 loop-again c = worked-more (c .before .before .before .before .before .before .loop .inv) (c .before .before .before .before .before .before .before .before .before .before .before .before .before .pre .0) (c .before .before .before .before .before .loop-test .taken) _ (c .before .before .before .before .word-of .ensures .0) _ (c .before .before .work-row .ensures)
 
--- src/settle.rt:19:1
 same-length : tie.Need-same-length Inv-loop μ-loop
 same-length c = c .before .loop .inv .long
 
--- src/settle.rt:19:1
 returns : tie.Need-returns Inv-loop μ-loop
 returns c = worked-all (c .before .loop .inv) (c .loop-test .left)
 

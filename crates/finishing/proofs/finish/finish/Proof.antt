@@ -14,7 +14,6 @@ use Rattle.finishing.proofs.finish.settle_all_cells.Reads as settle-all
 use Rattle.finishing.proofs.finish.settle_all_ios.Reads as settle-all-ios-reads
 use Rattle.finishing.proofs.finish.settle_all_metas.Reads as settle-all-metas-reads
 
--- src/finish.rt:68:5
 row-all-runs-requires : tie.Need-row-all-runs-requires
 row-all-runs-requires c κs = let p = c .before .before .before .before .before in
     let a = p .args in
@@ -22,7 +21,6 @@ row-all-runs-requires c κs = let p = c .before .before .before .before .before 
     let d = g .ready .noted in
     (d .longRows, omega (arith, d .longWork), few-rows (a .text .now) (g .so) (a .n) (a .rows .now) (g .bits) (a .work .now) d .3)
 
--- src/finish.rt:69:9
 settle-all-metas-requires : tie.Need-settle-all-metas-requires
 settle-all-metas-requires c κs = let p = c .before .before .before .before .before .before .before .before .before .before in
     let a = p .args in
@@ -31,7 +29,6 @@ settle-all-metas-requires c κs = let p = c .before .before .before .before .bef
     let k1 = c .before .before .before .before .row-all-runs .ensures .0 in
     (k1 .long ∙ d .longRows, record { notes = d .metas .notes; noted = metas-given (a .text .now) (g .so) (a .n) (a .rows .now) (g .bits) (a .work .now) d _ k1 }, p .pre .1)
 
--- src/finish.rt:70:9
 settle-all-ios-requires : tie.Need-settle-all-ios-requires
 settle-all-ios-requires c κs = let p = c .before .before .before .before .before .before .before .before .before .before .before .before .before .before .before .before .before in
     let a = p .args in
@@ -41,7 +38,6 @@ settle-all-ios-requires c κs = let p = c .before .before .before .before .befor
     let m = c .before .before .before .before .before .before .settle-all-metas in
     (m .ensures .0 .long ∙ k1 .long ∙ d .longRows, record { notes = d .ios .notes; noted = ios-given (a .text .now) (g .so) (a .n) (a .rows .now) (g .bits) (a .work .now) d _ k1 _ _ _ _ (m .ensures .0) (m .ensures .1) }, omega (arith, m .kept, p .pre .1))
 
--- src/finish.rt:71:5
 settle-all-cells-requires : tie.Need-settle-all-cells-requires
 settle-all-cells-requires c κs = let p = c .before .before .before .before .before .before .before .before .before .before .before .before .before .before .before .before .before .before .before .before .before .before .before .before in
     let a = p .args in
@@ -52,7 +48,6 @@ settle-all-cells-requires c κs = let p = c .before .before .before .before .bef
     let i = c .before .before .before .before .before .before .settle-all-ios in
     (i .ensures .0 .long ∙ m .ensures .0 .long ∙ k1 .long ∙ d .longRows, record { notes = d .cells .notes; noted = cells-given (a .text .now) (g .so) (a .n) (a .rows .now) (g .bits) (a .work .now) d _ k1 _ _ _ _ (m .ensures .0) (m .ensures .1) _ _ _ (i .ensures .0) (i .ensures .1) }, omega (arith, i .kept, m .kept, p .pre .1))
 
--- src/finish.rt:72:5
 put-counts-requires : tie.Need-put-counts-requires
 put-counts-requires c κs = let p = c .before .before .before .before .before .before .before .before .before .before .before .before .before .before .before .before .before .before .before .before .before .before .before .before .before .before .before .before .before .before in
     let a = p .args in
@@ -66,15 +61,12 @@ put-counts-requires c κs = let p = c .before .before .before .before .before .b
     let few = few-rows (a .text .now) (g .so) (a .n) (a .rows .now) (g .bits) (a .work .now) d in
     (omega (arith, long), few .0, few .1, few .2)
 
--- src/finish.rt:61:1
 same-length : tie.Need-same-length
 same-length c = search needs
 
--- src/finish.rt:61:1
 same-length-2 : tie.Need-same-length-2
 same-length-2 c = search needs
 
--- src/finish.rt:61:1
 returns : tie.Need-returns
 returns c = let a = c .before .before .before .before .before .before .before .before .before .before .before .before .before .before .before .before .before .before .before .before .before .before .before .before .before .before .before .before .before .before .before .before .before .args in
     let r = c .before .before .before .before .before .before .before .before .before .before .before .before .before .before .before .before .before .before .before .before .before .before .before .before .before .before .before .row-all-runs in

@@ -7,35 +7,27 @@ use Rattle.finishing.proofs.finish.put_counts.Reads as reads
 use Rattle.finishing.proofs.finish.put_counts.Lts as lts
 use Rattle.finishing.proofs.finish.word.Reads as word-reads
 
--- src/finish.rt:27:15
 word-requires : tie.Need-word-requires
 word-requires c κs = search needs
 
--- src/finish.rt:27:5
 slice-write-rows : tie.Need-slice-write-rows
 slice-write-rows c = search needs
 
--- src/finish.rt:28:15
 word-requires-2 : tie.Need-word-requires-2
 word-requires-2 c κs = search needs
 
--- src/finish.rt:28:5
 slice-write-rows-2 : tie.Need-slice-write-rows-2
 slice-write-rows-2 c = simp length-set (omega arith)
 
--- src/finish.rt:29:15
 word-requires-3 : tie.Need-word-requires-3
 word-requires-3 c κs = search needs
 
--- src/finish.rt:29:5
 slice-write-rows-3 : tie.Need-slice-write-rows-3
 slice-write-rows-3 c = search needs
 
--- src/finish.rt:23:1
 same-length : tie.Need-same-length
 same-length c = search needs
 
--- src/finish.rt:23:1
 returns : tie.Need-returns
 returns c = rw (c .word3 .ensures, c .before .word2 .ensures, c .before .before .word .ensures)
 

@@ -12,39 +12,30 @@ use Rattle.finishing.proofs.finish.row_all_runs.Reads as reads
 use Rattle.finishing.proofs.finish.row_all_runs.Lts as lts
 use Rattle.rowruns.proofs.row_runs.Reads as row-runs-reads
 
--- src/finish.rt:37:14
 sub-row-runs : tie.Need-sub-row-runs
 sub-row-runs c = search needs
 
--- src/finish.rt:37:14
 part-row-runs-start : tie.Need-part-row-runs-start
 part-row-runs-start c = search needs
 
--- src/finish.rt:37:14
 part-row-runs-end : tie.Need-part-row-runs-end
 part-row-runs-end c = search needs
 
--- src/finish.rt:37:31
 sub-row-runs-2 : tie.Need-sub-row-runs-2
 sub-row-runs-2 c = search needs
 
--- src/finish.rt:37:31
 part-row-runs-start-2 : tie.Need-part-row-runs-start-2
 part-row-runs-start-2 c = search needs
 
--- src/finish.rt:37:31
 part-row-runs-end-2 : tie.Need-part-row-runs-end-2
 part-row-runs-end-2 c = search needs
 
--- src/finish.rt:37:5
 row-runs-requires : tie.Need-row-runs-requires
 row-runs-requires c κs = search needs
 
--- src/finish.rt:33:1
 same-length : tie.Need-same-length
 same-length c = search needs
 
--- src/finish.rt:33:1
 returns : tie.Need-returns
 unfolding part
 returns c = let a = c .before .before .before .before .before .before .before .args in

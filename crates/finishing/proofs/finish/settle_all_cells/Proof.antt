@@ -12,32 +12,25 @@ use Rattle.finishing.proofs.finish.settle_all_cells.Reads as reads
 use Rattle.finishing.proofs.finish.settle_all_cells.Lts as lts
 use Rattle.settling.proofs.settle_cells.Reads as settle-cells-reads
 
--- src/finish.rt:58:24
 sub-settle-cells : tie.Need-sub-settle-cells
 sub-settle-cells c = search needs
 
--- src/finish.rt:58:24
 part-settle-cells-start : tie.Need-part-settle-cells-start
 part-settle-cells-start c = search needs
 
--- src/finish.rt:58:24
 part-settle-cells-end : tie.Need-part-settle-cells-end
 part-settle-cells-end c = search needs
 
--- src/finish.rt:58:5
 settle-cells-requires : tie.Need-settle-cells-requires
 unfolding part
 settle-cells-requires c κs = (c .before .before .before .before .before .pre .1, c .before .before .before .before .before .pre .2)
 
--- src/finish.rt:54:1
 same-length : tie.Need-same-length
 same-length c = search needs
 
--- src/finish.rt:54:1
 same-length-2 : tie.Need-same-length-2
 same-length-2 c = search needs
 
--- src/finish.rt:54:1
 returns : tie.Need-returns
 unfolding part
 returns c = let a = c .before .before .before .before .before .before .before .before .before .before .args in

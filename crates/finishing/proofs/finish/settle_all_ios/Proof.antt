@@ -12,32 +12,25 @@ use Rattle.finishing.proofs.finish.settle_all_ios.Reads as reads
 use Rattle.finishing.proofs.finish.settle_all_ios.Lts as lts
 use Rattle.settling.proofs.settle_ios.Reads as settle-ios-reads
 
--- src/finish.rt:51:22
 sub-settle-ios : tie.Need-sub-settle-ios
 sub-settle-ios c = search needs
 
--- src/finish.rt:51:22
 part-settle-ios-start : tie.Need-part-settle-ios-start
 part-settle-ios-start c = search needs
 
--- src/finish.rt:51:22
 part-settle-ios-end : tie.Need-part-settle-ios-end
 part-settle-ios-end c = search needs
 
--- src/finish.rt:51:5
 settle-ios-requires : tie.Need-settle-ios-requires
 unfolding part
 settle-ios-requires c κs = (c .before .before .before .before .before .pre .1, c .before .before .before .before .before .pre .2)
 
--- src/finish.rt:47:1
 same-length : tie.Need-same-length
 same-length c = search needs
 
--- src/finish.rt:47:1
 same-length-2 : tie.Need-same-length-2
 same-length-2 c = search needs
 
--- src/finish.rt:47:1
 returns : tie.Need-returns
 unfolding part
 returns c = let a = c .before .before .before .before .before .before .before .before .before .before .args in

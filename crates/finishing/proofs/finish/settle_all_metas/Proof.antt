@@ -12,32 +12,25 @@ use Rattle.finishing.proofs.finish.settle_all_metas.Reads as reads
 use Rattle.finishing.proofs.finish.settle_all_metas.Lts as lts
 use Rattle.settling.proofs.settle_metas.Reads as settle-metas-reads
 
--- src/finish.rt:44:24
 sub-settle-metas : tie.Need-sub-settle-metas
 sub-settle-metas c = search needs
 
--- src/finish.rt:44:24
 part-settle-metas-start : tie.Need-part-settle-metas-start
 part-settle-metas-start c = search needs
 
--- src/finish.rt:44:24
 part-settle-metas-end : tie.Need-part-settle-metas-end
 part-settle-metas-end c = search needs
 
--- src/finish.rt:44:5
 settle-metas-requires : tie.Need-settle-metas-requires
 unfolding part
 settle-metas-requires c κs = (c .before .before .before .before .before .pre .1, c .before .before .before .before .before .pre .2)
 
--- src/finish.rt:40:1
 same-length : tie.Need-same-length
 same-length c = search needs
 
--- src/finish.rt:40:1
 same-length-2 : tie.Need-same-length-2
 same-length-2 c = search needs
 
--- src/finish.rt:40:1
 returns : tie.Need-returns
 unfolding part
 returns c = let a = c .before .before .before .before .before .before .before .before .before .before .args in

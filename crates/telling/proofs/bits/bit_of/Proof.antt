@@ -6,22 +6,18 @@ use Rattle.telling.proofs.bits.bit_of.Tie as tie
 use Rattle.telling.proofs.bits.bit_of.Reads as reads
 use Rattle.telling.proofs.bits.bit_of.Lts as lts
 
--- src/bits.rt:13:9
 returns : tie.Need-returns
 unfolding bitOf
 returns c = search tests
 
--- src/bits.rt:16:9
 returns-2 : tie.Need-returns-2
 unfolding bitOf
 returns-2 c = search tests
 
--- src/bits.rt:19:9
 returns-3 : tie.Need-returns-3
 unfolding bitOf
 returns-3 c = search tests
 
--- src/bits.rt:9:1
 returns-4 : tie.Need-returns-4
 unfolding bitOf
 returns-4 c = search tests

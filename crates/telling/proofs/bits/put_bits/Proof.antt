@@ -18,47 +18,36 @@ Inv-loop letters room₀ i₀ room i = (length room ≡ length room₀) × (i �
 abbrev μ-loop : tie.MeasureT-loop
 μ-loop letters room₀ i₀ room i = length letters - i
 
--- src/bits.rt:51:5
 loop-holds : tie.Need-loop-holds Inv-loop μ-loop
 loop-holds c = (refl, omega arith, omega arith, refl)
 
--- src/bits.rt:53:13
 same-length : tie.Need-same-length Inv-loop μ-loop
 same-length c = search needs
 
--- src/bits.rt:53:13
 returns : tie.Need-returns Inv-loop μ-loop
 returns c = let a = c .before .before .before .before .before .args in let p = c .before .before .loop in (p .inv .1, (count-stop (length (a .letters .now)) (length (a .room .now)) (length (p .room)) (p .i) (p .inv .0) (p .inv .1) (c .if1 .taken) (c .before .loop-test .taken), bits-stop (a .letters .now) (p .room) (sets (a .room .now) 0 (bitsOf (a .letters .now))) (p .i) (c .if1 .taken) (p .inv .3)))
 
--- src/bits.rt:55:26
 shared-slice-read-bit-of : tie.Need-shared-slice-read-bit-of Inv-loop μ-loop
 shared-slice-read-bit-of c = search needs
 
--- src/bits.rt:55:19
 bit-of-requires : tie.Need-bit-of-requires Inv-loop μ-loop
 bit-of-requires c κs = search needs
 
--- src/bits.rt:55:9
 slice-write-room : tie.Need-slice-write-room Inv-loop μ-loop
 slice-write-room c = search needs
 
--- src/bits.rt:56:9
 add-i : tie.Need-add-i Inv-loop μ-loop
 add-i c = search needs
 
--- src/bits.rt:51:5
 loop-less : tie.Need-loop-less Inv-loop μ-loop
 loop-less c = search needs
 
--- src/bits.rt:51:5
 loop-again : tie.Need-loop-again Inv-loop μ-loop
 loop-again c = let a = c .before .before .before .before .before .before .before .args in let p = c .before .before .before .before .loop in (simp length-set (p .inv .0), omega (arith, p .inv .0, c .before .before .if1 .left), omega (arith, c .before .before .before .loop-test .taken), bits-more (a .letters .now) (p .room) (sets (a .room .now) 0 (bitsOf (a .letters .now))) (p .i) _ (c .before .before .before .loop-test .taken) (c .bit-of .ensures) (p .inv .3))
 
--- src/bits.rt:45:1
 same-length-2 : tie.Need-same-length-2 Inv-loop μ-loop
 same-length-2 c = search needs
 
--- src/bits.rt:45:1
 returns-2 : tie.Need-returns-2 Inv-loop μ-loop
 returns-2 c = let a = c .before .before .before .before .args in let p = c .before .loop in (p .inv .1, (count-all (length (a .letters .now)) (length (a .room .now)) (p .i) (p .inv .2) (c .loop-test .left) (p .inv .1), bits-all (a .letters .now) (p .room) (sets (a .room .now) 0 (bitsOf (a .letters .now))) (p .i) (c .loop-test .left) (p .inv .3)))
 

@@ -16,47 +16,36 @@ Inv-loop bits at n room₀ i₀ room i = (length room ≡ length room₀) × (i 
 abbrev μ-loop : tie.MeasureT-loop
 μ-loop bits at n room₀ i₀ room i = n - i
 
--- src/bits.rt:59:5
 loop-holds : tie.Need-loop-holds Inv-loop μ-loop
 loop-holds c = (refl, omega arith)
 
--- src/bits.rt:61:13
 same-length : tie.Need-same-length Inv-loop μ-loop
 same-length c = search needs
 
--- src/bits.rt:61:13
 returns : tie.Need-returns Inv-loop μ-loop
 returns c = search needs
 
--- src/bits.rt:63:29
 byte-behind-requires : tie.Need-byte-behind-requires Inv-loop μ-loop
 byte-behind-requires c κs = search needs
 
--- src/bits.rt:63:19
 letter-of-requires : tie.Need-letter-of-requires Inv-loop μ-loop
 letter-of-requires c κs = search needs
 
--- src/bits.rt:63:9
 slice-write-room : tie.Need-slice-write-room Inv-loop μ-loop
 slice-write-room c = search needs
 
--- src/bits.rt:64:9
 add-i : tie.Need-add-i Inv-loop μ-loop
 add-i c = search needs
 
--- src/bits.rt:59:5
 loop-less : tie.Need-loop-less Inv-loop μ-loop
 loop-less c = search needs
 
--- src/bits.rt:59:5
 loop-again : tie.Need-loop-again Inv-loop μ-loop
 loop-again c = (simp length-set (c .before .before .before .before .loop .inv .0), omega (arith, c .before .before .before .before .loop .inv .0, c .before .before .if1 .left))
 
--- src/bits.rt:55:1
 same-length-2 : tie.Need-same-length-2 Inv-loop μ-loop
 same-length-2 c = search needs
 
--- src/bits.rt:55:1
 returns-2 : tie.Need-returns-2 Inv-loop μ-loop
 returns-2 c = search needs
 

@@ -13,35 +13,27 @@ Inv-loop to name i₀ i = i ≤ length name
 abbrev μ-loop : tie.MeasureT-loop
 μ-loop to name i₀ i = length name - i
 
--- src/names.rt:25:5
 loop-holds : tie.Need-loop-holds Inv-loop μ-loop
 loop-holds c = search needs
 
--- src/names.rt:26:26
 shared-slice-read-tell-byte : tie.Need-shared-slice-read-tell-byte Inv-loop μ-loop
 shared-slice-read-tell-byte c = search needs
 
--- src/names.rt:26:12
 tell-byte-requires : tie.Need-tell-byte-requires Inv-loop μ-loop
 tell-byte-requires c κs = search needs
 
--- src/names.rt:27:13
 add-i : tie.Need-add-i Inv-loop μ-loop
 add-i c = search needs
 
--- src/names.rt:25:5
 loop-less : tie.Need-loop-less Inv-loop μ-loop
 loop-less c = search needs
 
--- src/names.rt:25:5
 loop-again : tie.Need-loop-again Inv-loop μ-loop
 loop-again c = search needs
 
--- src/names.rt:29:13
 returns : tie.Need-returns Inv-loop μ-loop
 returns c = search needs
 
--- src/names.rt:23:1
 returns-2 : tie.Need-returns-2 Inv-loop μ-loop
 returns-2 c = search needs
 

@@ -13,35 +13,27 @@ Inv-loop to list n k₀ k = k ≤ n
 abbrev μ-loop : tie.MeasureT-loop
 μ-loop to list n k₀ k = n - k
 
--- src/records.rt:33:5
 loop-holds : tie.Need-loop-holds Inv-loop μ-loop
 loop-holds c = search needs
 
--- src/records.rt:34:28
 record-at-requires : tie.Need-record-at-requires Inv-loop μ-loop
 record-at-requires c κs = search needs
 
--- src/records.rt:34:12
 tell-record-requires : tie.Need-tell-record-requires Inv-loop μ-loop
 tell-record-requires c κs = search needs
 
--- src/records.rt:35:13
 add-k : tie.Need-add-k Inv-loop μ-loop
 add-k c = search needs
 
--- src/records.rt:33:5
 loop-less : tie.Need-loop-less Inv-loop μ-loop
 loop-less c = search needs
 
--- src/records.rt:33:5
 loop-again : tie.Need-loop-again Inv-loop μ-loop
 loop-again c = search needs
 
--- src/records.rt:37:13
 returns : tie.Need-returns Inv-loop μ-loop
 returns c = search needs
 
--- src/records.rt:31:1
 returns-2 : tie.Need-returns-2 Inv-loop μ-loop
 returns-2 c = search needs
 
