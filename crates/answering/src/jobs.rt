@@ -1,7 +1,7 @@
 // What is asked of a file.
 use libc::{STDERR_FILENO, STDOUT_FILENO};
 
-#[derive(Drop)]
+#[derive(Clone, Copy)]
 pub enum Job {
     Check,
     Print,

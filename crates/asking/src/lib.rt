@@ -6,7 +6,7 @@ pub mod refs;
 use ground::Place;
 
 // What a reference may name: metadata of any kind, of any but a set, a scope, or a source.
-#[derive(Drop)]
+#[derive(Clone, Copy)]
 pub enum Asks {
     Any,
     Member,
@@ -15,7 +15,7 @@ pub enum Asks {
 }
 
 // The place of the first reference that names nothing, or nothing that it may name.
-#[derive(Drop)]
+#[derive(Clone, Copy)]
 pub enum Misnaming {
     At(Place),
     Nowhere,

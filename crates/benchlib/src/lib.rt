@@ -14,7 +14,7 @@ use translating::{Translated, translate};
 
 // How many output bits or records are given, or why none are.
 #[repr(C)]
-#[derive(Drop)]
+#[derive(Clone, Copy)]
 pub struct Gave {
     pub count: u64,
     pub number: u32,

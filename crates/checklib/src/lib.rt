@@ -11,7 +11,7 @@ use textlib::{Told, accepted, told_by};
 
 // The I/O row of an asked name and its width, or why there is none.
 #[repr(C)]
-#[derive(Drop)]
+#[derive(Clone, Copy)]
 pub struct Pad {
     pub row: u64,
     pub width: u32,

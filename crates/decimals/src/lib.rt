@@ -8,7 +8,7 @@ ghost use Rattle.writing.specs.Stands.{Wrote};
 use writing::room::put;
 
 // A digit, and what is left.
-#[derive(Drop)]
+#[derive(Clone, Copy)]
 pub struct Split {
     pub digit: u32,
     pub rest: u32,

@@ -2,7 +2,7 @@
 use crate::words::same;
 use answering::Job;
 
-#[derive(Drop)]
+#[derive(Clone, Copy)]
 pub enum Command {
     Help,
     Unknown,

@@ -6,7 +6,7 @@ use answering::{Job, answer, tell_unread};
 use libc::STDIN_FILENO;
 
 // Whether the file was read to its end or until the room was full, and how many bytes came.
-#[derive(Drop)]
+#[derive(Clone, Copy)]
 struct Taken {
     whole: bool,
     n: usize,

@@ -2,28 +2,28 @@
 // part adds to it, and when a part has no bits. The form of operands stands below it; the code, in joining and cellruns, above.
 
 // How many run rows and run trits are in use.
-#[derive(Drop)]
+#[derive(Clone, Copy)]
 pub struct Laid {
     pub runs: usize,
     pub trits: usize,
 }
 
 // What is in use now; or a run more than 4,096 would be needed.
-#[derive(Drop)]
+#[derive(Clone, Copy)]
 pub enum Laying {
     Laid(Laid),
     Full,
 }
 
 // An operand: what is in use now, and whether one of its parts has no bits.
-#[derive(Drop)]
+#[derive(Clone, Copy)]
 pub enum OperandLaying {
     Laid(Laid, bool),
     Full,
 }
 
 // The runs of a cell's three operands, what is in use now, and whether a part of an operand has no bits.
-#[derive(Drop)]
+#[derive(Clone, Copy)]
 pub struct Counts {
     pub a: usize,
     pub b: usize,
@@ -32,7 +32,7 @@ pub struct Counts {
     pub bare: bool,
 }
 
-#[derive(Drop)]
+#[derive(Clone, Copy)]
 pub enum CellLaying {
     Laid(Counts),
     Full,

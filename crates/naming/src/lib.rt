@@ -15,7 +15,7 @@ use netlist::Checked;
 use regions::{metas_of, strings_of};
 
 // The length of the name written, or a refusal.
-#[derive(Drop)]
+#[derive(Clone, Copy)]
 pub enum Named {
     Length(usize),
     Refused(Refusal),

@@ -9,7 +9,7 @@ use ground::{Place, Refusal};
 
 // How much the text brought so far: rows, members of sets, trits of attributes, runs, known trits in them, declared cell bits,
 // output bits, and bytes of strings; and whether a part without bits was read, of which the runs tell nothing.
-#[derive(Drop)]
+#[derive(Clone, Copy)]
 pub struct Tally {
     pub metas: usize,
     pub ios: usize,
@@ -25,14 +25,14 @@ pub struct Tally {
 }
 
 // A declaration more is noted, or why it is refused.
-#[derive(Drop)]
+#[derive(Clone, Copy)]
 pub enum Noting {
     More(Tally),
     Refused(Refusal),
 }
 
 // Whether the rules 9 to 13 let a declaration pass.
-#[derive(Drop)]
+#[derive(Clone, Copy)]
 pub enum Ruling {
     Passed,
     Refused(Refusal),

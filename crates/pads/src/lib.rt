@@ -18,7 +18,7 @@ use pools::word_of;
 use regions::{ios_of, strings_of};
 use words::wide;
 
-#[derive(Drop)]
+#[derive(Clone, Copy)]
 pub struct Pad {
     pub start: u32,
     pub length: u32,

@@ -16,7 +16,7 @@ use ground::{Place, Refusal};
 use netlist::Checked;
 
 // The length of the text printed, or a refusal.
-#[derive(Drop)]
+#[derive(Clone, Copy)]
 pub enum Printed {
     Length(usize),
     Refused(Refusal),

@@ -11,7 +11,7 @@ use printing::{Printed, print_text};
 
 // How many bytes of the room an answer takes, or why it is refused.
 #[repr(C)]
-#[derive(Drop)]
+#[derive(Clone, Copy)]
 pub struct Wrote {
     pub length: u64,
     pub number: u32,

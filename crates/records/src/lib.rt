@@ -8,7 +8,7 @@ use listcount::record_count;
 use loadlist::Record;
 use loadlist::records::record_at;
 
-#[derive(Drop)]
+#[derive(Clone, Copy)]
 pub struct Records<'a> {
     pub list: &'a [u8],
     pub number: usize,

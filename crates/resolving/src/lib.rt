@@ -11,7 +11,7 @@ use walks::{operand_walk, walk_next};
 use words::word_at;
 
 // The place of the first piece that does not resolve.
-#[derive(Drop)]
+#[derive(Clone, Copy)]
 pub enum Lost {
     At(Place),
     Nowhere,

@@ -9,7 +9,7 @@ use decoding::fill;
 use words::wide;
 
 // Where the next string, member and attribute trit lie.
-#[derive(Drop)]
+#[derive(Clone, Copy)]
 pub struct Starts {
     pub strings: usize,
     pub members: usize,
@@ -17,7 +17,7 @@ pub struct Starts {
 }
 
 // Where the next string and the next run lie.
-#[derive(Drop)]
+#[derive(Clone, Copy)]
 pub struct CellStarts {
     pub strings: usize,
     pub runs: usize,

@@ -13,7 +13,7 @@ use signs::classes::classes;
 
 // A refusal number with its place; 0 and 0 where nothing is refused.
 #[repr(C)]
-#[derive(Drop)]
+#[derive(Clone, Copy)]
 pub struct Told {
     pub number: u32,
     pub place: u64,
@@ -21,7 +21,7 @@ pub struct Told {
 
 // How many tokens a text has, or why it is refused.
 #[repr(C)]
-#[derive(Drop)]
+#[derive(Clone, Copy)]
 pub struct Counted {
     pub tokens: u64,
     pub number: u32,
@@ -29,7 +29,7 @@ pub struct Counted {
 }
 
 // What a token does to a count: on to a place, the text's end, or a refusal.
-#[derive(Drop)]
+#[derive(Clone, Copy)]
 pub enum Moved {
     On(usize),
     Ended,
