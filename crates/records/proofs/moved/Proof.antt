@@ -1,4 +1,4 @@
--- `records::moved` meets its contract: a walk of its MIR, by hand, around the call of `number_after` on the list and the number (`Apart`'s `calls-apart`). All that the proof knows of `number_after` is that it meets its contract.
+-- `records::moved` meets its contract: a walk of its MIR, by hand, around the call of `number_after` on the list and the number (`Apart`'s `calls_apart`). All that the proof knows of `number_after` is that it meets its contract.
 -- The struct is Copy: one copy of what it owns stays for the exit, and the other, with the new number's facts in the place of the old one's, is what the result owns.
 -- Assumes nothing.
 use mathlib.Core.Path.{refl, ap}
