@@ -2,7 +2,7 @@ use mathlib.Core.Path.{◌∙◌}
 use mathlib.Core.List.{◌++◌}
 use native.Mathlib.Omega.{arith}
 use Rattle.saying.specs.Values.{operand_runs}
-use Rattle.laying.proofs.Counting.{laid-held, laid-trits, laid_runs, full_one, full_two, full_three, counted, bare_of_three}
+use Rattle.laying.proofs.Counting.{laid_held, laid_trits, laid_runs, full_one, full_two, full_three, counted, bare_of_three}
 use borrow.Author.Rules.{rules}
 use Rattle.cellruns.proofs.lay_cell.Statement.{statement}
 use Rattle.cellruns.proofs.lay_cell.Tie as tie
@@ -35,8 +35,8 @@ lay-operand-requires-2 c κs =
     let w = a.w in
     let h = c.before.before.before.before.before.before.before.before.before.before.before.before.before.before.before.before.before.before.requires.2 in
     let e1 = rw c.before.before.before.first.given.1 at c.before.before.before.before.before.before.before.before.before.lay-operand.ensures in
-    let h1 = laid-held a.text.now w.a e1.0 h in
-    let t1 = laid-trits a.text.now w.a e1.0 h in
+    let h1 = laid_held a.text.now w.a e1.0 h in
+    let t1 = laid_trits a.text.now w.a e1.0 h in
     (c.before.before.before.before.before.before.before.before.before.before.before.before.before.before.before.before.before.before.requires.0, c.before.before.before.before.before.before.before.before.before.before.before.before.before.before.before.before.before.before.requires.1, h1, c.before.before.before.before.before.before.before.before.before.before.before.before.before.before.before.before.before.before.requires.3.b, omega (arith, c.before.before.before.before.before.before.before.before.before.before.before.before.before.before.before.before.before.before.requires.3.all))
 
 enum-known-second : tie.Need-enum-known-second
@@ -65,11 +65,11 @@ lay-operand-requires-3 c κs =
     let w = a.w in
     let h = c.before.before.before.before.before.before.before.before.before.before.before.before.before.before.before.before.before.before.before.before.before.before.before.before.before.before.before.before.requires.2 in
     let e1 = rw c.before.before.before.before.before.before.before.before.before.before.before.before.before.first.given.1 at c.before.before.before.before.before.before.before.before.before.before.before.before.before.before.before.before.before.before.before.lay-operand.ensures in
-    let h1 = laid-held a.text.now w.a e1.0 h in
-    let t1 = laid-trits a.text.now w.a e1.0 h in
+    let h1 = laid_held a.text.now w.a e1.0 h in
+    let t1 = laid_trits a.text.now w.a e1.0 h in
     let e2 = rw c.before.before.before.second.given.1 at c.before.before.before.before.before.before.before.before.before.lay-operand2.ensures in
-    let h2 = laid-held a.text.now w.b e2.0 h1 in
-    let t2 = laid-trits a.text.now w.b e2.0 h1 in
+    let h2 = laid_held a.text.now w.b e2.0 h1 in
+    let t2 = laid_trits a.text.now w.b e2.0 h1 in
     (c.before.before.before.before.before.before.before.before.before.before.before.before.before.before.before.before.before.before.before.before.before.before.before.before.before.before.before.before.requires.0, c.before.before.before.before.before.before.before.before.before.before.before.before.before.before.before.before.before.before.before.before.before.before.before.before.before.before.before.before.requires.1, h2, c.before.before.before.before.before.before.before.before.before.before.before.before.before.before.before.before.before.before.before.before.before.before.before.before.before.before.before.before.requires.3.c, omega (arith, c.before.before.before.before.before.before.before.before.before.before.before.before.before.before.before.before.before.before.before.before.before.before.before.before.before.before.before.before.requires.3.all))
 
 enum-known-third : tie.Need-enum-known-third
@@ -108,7 +108,7 @@ sub-t32 c =
     let w = a.w in
     let h = c.before.before.before.before.before.before.before.before.before.before.before.before.before.before.before.before.before.before.before.before.before.before.before.before.before.before.before.before.before.before.before.before.before.before.before.before.before.before.before.before.requires.2 in
     let e1 = rw c.before.before.before.before.before.before.before.before.before.before.before.before.before.before.before.before.before.before.before.before.before.before.before.before.before.first.given.1 at c.before.before.before.before.before.before.before.before.before.before.before.before.before.before.before.before.before.before.before.before.before.before.before.before.before.before.before.before.before.before.before.lay-operand.ensures in
-    let h1 = laid-held a.text.now w.a e1.0 h in
+    let h1 = laid_held a.text.now w.a e1.0 h in
     let e2 = rw c.before.before.before.before.before.before.before.before.before.before.before.before.before.before.before.second.given.1 at c.before.before.before.before.before.before.before.before.before.before.before.before.before.before.before.before.before.before.before.before.before.lay-operand2.ensures in
     let n2 = laid_runs a.text.now w.b e2.0 h1 in
     omega arith
@@ -119,9 +119,9 @@ sub-t33 c =
     let w = a.w in
     let h = c.before.before.before.before.before.before.before.before.before.before.before.before.before.before.before.before.before.before.before.before.before.before.before.before.before.before.before.before.before.before.before.before.before.before.before.before.before.before.before.before.before.before.requires.2 in
     let e1 = rw c.before.before.before.before.before.before.before.before.before.before.before.before.before.before.before.before.before.before.before.before.before.before.before.before.before.before.before.first.given.1 at c.before.before.before.before.before.before.before.before.before.before.before.before.before.before.before.before.before.before.before.before.before.before.before.before.before.before.before.before.before.before.before.before.before.lay-operand.ensures in
-    let h1 = laid-held a.text.now w.a e1.0 h in
+    let h1 = laid_held a.text.now w.a e1.0 h in
     let e2 = rw c.before.before.before.before.before.before.before.before.before.before.before.before.before.before.before.before.before.second.given.1 at c.before.before.before.before.before.before.before.before.before.before.before.before.before.before.before.before.before.before.before.before.before.before.before.lay-operand2.ensures in
-    let h2 = laid-held a.text.now w.b e2.0 h1 in
+    let h2 = laid_held a.text.now w.b e2.0 h1 in
     let e3 = rw c.before.before.before.before.before.before.before.third.given.1 at c.before.before.before.before.before.before.before.before.before.before.before.before.before.lay-operand3.ensures in
     let n3 = laid_runs a.text.now w.c e3.0 h2 in
     omega arith
@@ -141,10 +141,10 @@ returns-4 c =
     let w = a.w in
     let h = c.before.before.before.before.before.before.before.before.before.before.before.before.before.before.before.before.before.before.before.before.before.before.before.before.before.before.before.before.before.before.before.before.before.before.before.before.before.before.before.before.before.before.before.requires.2 in
     let e1 = rw c.before.before.before.before.before.before.before.before.before.before.before.before.before.before.before.before.before.before.before.before.before.before.before.before.before.before.before.before.first.given.1 at c.before.before.before.before.before.before.before.before.before.before.before.before.before.before.before.before.before.before.before.before.before.before.before.before.before.before.before.before.before.before.before.before.before.before.lay-operand.ensures in
-    let h1 = laid-held a.text.now w.a e1.0 h in
+    let h1 = laid_held a.text.now w.a e1.0 h in
     let n1 = laid_runs a.text.now w.a e1.0 h in
     let e2 = rw c.before.before.before.before.before.before.before.before.before.before.before.before.before.before.before.before.before.before.second.given.1 at c.before.before.before.before.before.before.before.before.before.before.before.before.before.before.before.before.before.before.before.before.before.before.before.before.lay-operand2.ensures in
-    let h2 = laid-held a.text.now w.b e2.0 h1 in
+    let h2 = laid_held a.text.now w.b e2.0 h1 in
     let n2 = laid_runs a.text.now w.b e2.0 h1 in
     let e3 = rw c.before.before.before.before.before.before.before.before.third.given.1 at c.before.before.before.before.before.before.before.before.before.before.before.before.before.before.lay-operand3.ensures in
     let n3 = laid_runs a.text.now w.c e3.0 h2 in

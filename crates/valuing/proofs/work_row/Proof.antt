@@ -1,4 +1,4 @@
-use Rattle.valuing.proofs.Laws.{gathered, gathered-room, revalued, room_long, valued_row}
+use Rattle.valuing.proofs.Laws.{gathered, gathered_room, revalued, room_long, valued_row}
 use Rattle.cells.specs.Operands.{bits_from}
 use Rattle.cells.specs.Values.{kind_value}
 use lib.ListN.{drop, get_or}
@@ -31,7 +31,7 @@ part-work-second-start : tie.Need-slice-bounds-work-second-start
 part-work-second-start c = search rules
 
 part-work-second-end : tie.Need-slice-bounds-work-second-end
-part-work-second-end c = let a = c.before.before.before.before.before.before.before.before.before.before.before.before.args in gathered-room (Rattle.cells.specs.Held.held_bits a.starts.now a.values.now) (Rattle.cells.specs.Held.held_runs a.runs.now a.trits.now) _ _ _ _ c.before.before.before.before.before.before.word_in.ensures.0 c.before.before.before.before.before.word-in2.ensures.0 _ _ _ room_long c.before.before.gather.ensures c.before.before.before.before.before.before.before.before.before.before.before.before.requires.0.narrow.a
+part-work-second-end c = let a = c.before.before.before.before.before.before.before.before.before.before.before.before.args in gathered_room (Rattle.cells.specs.Held.held_bits a.starts.now a.values.now) (Rattle.cells.specs.Held.held_runs a.runs.now a.trits.now) _ _ _ _ c.before.before.before.before.before.before.word_in.ensures.0 c.before.before.before.before.before.word-in2.ensures.0 _ _ _ room_long c.before.before.gather.ensures c.before.before.before.before.before.before.before.before.before.before.before.before.requires.0.narrow.a
 
 work-second-requires : tie.Need-work-second-requires
 work-second-requires c κs = search rules

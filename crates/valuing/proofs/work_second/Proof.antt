@@ -1,4 +1,4 @@
-use Rattle.valuing.proofs.Laws.{gathered, gathered-room, revalued, room_long}
+use Rattle.valuing.proofs.Laws.{gathered, gathered_room, revalued, room_long}
 use Rattle.cells.specs.Operands.{bits_from}
 use Rattle.cells.specs.Values.{kind_value}
 use lib.ListN.{drop, get_or}
@@ -32,7 +32,7 @@ part-work-third-start : tie.Need-slice-bounds-work-third-start
 part-work-third-start c = search rules
 
 part-work-third-end : tie.Need-slice-bounds-work-third-end
-part-work-third-end c = let a = c.before.before.before.before.before.before.before.before.before.before.before.before.before.args in gathered-room (Rattle.cells.specs.Held.held_bits a.starts.now a.values.now) (Rattle.cells.specs.Held.held_runs a.runs.now a.trits.now) _ _ _ _ c.before.before.before.before.before.before.second_run.ensures.0 c.before.before.before.before.before.word_in.ensures.0 _ _ _ room_long c.before.before.gather.ensures c.before.before.before.before.before.before.before.before.before.before.before.before.before.requires.0.narrow.b
+part-work-third-end c = let a = c.before.before.before.before.before.before.before.before.before.before.before.before.before.args in gathered_room (Rattle.cells.specs.Held.held_bits a.starts.now a.values.now) (Rattle.cells.specs.Held.held_runs a.runs.now a.trits.now) _ _ _ _ c.before.before.before.before.before.before.second_run.ensures.0 c.before.before.before.before.before.word_in.ensures.0 _ _ _ room_long c.before.before.gather.ensures c.before.before.before.before.before.before.before.before.before.before.before.before.before.requires.0.narrow.b
 
 work-third-requires : tie.Need-work-third-requires
 work-third-requires c κs = search rules

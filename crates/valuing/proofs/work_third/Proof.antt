@@ -1,7 +1,7 @@
 use Rattle.cells.specs.Values.{kind_value}
 use lib.ListN.{drop, get_or}
 use Prim.Native.Nat.{◌*◌}
-use Rattle.valuing.proofs.Laws.{gathered, gathered-room, revalued, room_long}
+use Rattle.valuing.proofs.Laws.{gathered, gathered_room, revalued, room_long}
 use borrow.Author.Rules.{rules}
 use Rattle.valuing.proofs.work_third.Statement.{statement}
 use Rattle.valuing.proofs.work_third.Tie as tie
@@ -31,7 +31,7 @@ part-put-row-start : tie.Need-slice-bounds-put-row-start
 part-put-row-start c = search rules
 
 part-put-row-end : tie.Need-slice-bounds-put-row-end
-part-put-row-end c = let a = c.before.before.before.before.before.before.before.before.before.before.before.before.before.before.args in gathered-room (Rattle.cells.specs.Held.held_bits a.starts.now a.values.now) (Rattle.cells.specs.Held.held_runs a.runs.now a.trits.now) _ _ _ _ c.before.before.before.before.before.before.third-run.ensures c.before.before.before.before.before.word_in.ensures.0 _ _ _ room_long c.before.before.gather.ensures c.before.before.before.before.before.before.before.before.before.before.before.before.before.before.requires.0.narrow.c
+part-put-row-end c = let a = c.before.before.before.before.before.before.before.before.before.before.before.before.before.before.args in gathered_room (Rattle.cells.specs.Held.held_bits a.starts.now a.values.now) (Rattle.cells.specs.Held.held_runs a.runs.now a.trits.now) _ _ _ _ c.before.before.before.before.before.before.third-run.ensures c.before.before.before.before.before.word_in.ensures.0 _ _ _ room_long c.before.before.gather.ensures c.before.before.before.before.before.before.before.before.before.before.before.before.before.before.requires.0.narrow.c
 
 put-row-requires : tie.Need-put-row-requires
 put-row-requires c κs = search rules

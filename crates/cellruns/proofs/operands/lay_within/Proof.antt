@@ -4,7 +4,7 @@ use native.Mathlib.Omega.{arith}
 use lib.ListN.{length}
 use Rattle.brackets.specs.Parts.{parts_from}
 use Rattle.laying.proofs.Inside.{parts_in}
-use Rattle.laying.proofs.Spotting.{spot-done, spot-fits, spot-more, spot-full}
+use Rattle.laying.proofs.Spotting.{spot_done, spot_fits, spot_more, spot_full}
 use Rattle.laying.proofs.Walking.{parts_none, parts_refused, parts_other, parts_took, Walks, walks_as, walks_none, walks_done, walks_fits, walks_more, walks_full}
 use borrow.Author.Rules.{rules}
 use Rattle.cellruns.proofs.operands.lay_within.Statement.{statement}
@@ -42,14 +42,14 @@ returns c =
     let a = c.before.before.before.before.before.before.before.args in
     let l = c.before.before.before.loop in
     let s = c.before.spot-with in
-    spot-done a.text.now _ a.runs.now a.trits.now a.so l.next.next.at l.left s.result s.ensures l.invariant.2 c.if1.true
+    spot_done a.text.now _ a.runs.now a.trits.now a.so l.next.next.at l.left s.result s.ensures l.invariant.2 c.if1.true
 
 add-piece-requires : tie.Need-add-piece-requires invariant-loop decreases-loop
 add-piece-requires c κs =
     let a = c.before.before.before.before.before.before.before.before.before.args in
     let l = c.before.before.before.before.before.loop in
     let s = c.before.before.before.spot-with in
-    spot-fits a.text.now _ a.runs.now a.trits.now a.so l.next.next.at l.left s.result s.ensures l.invariant.2 c.before.if2.true c.before.before.before.before.loop-test.true c.before.before.before.before.before.before.before.before.before.requires.2
+    spot_fits a.text.now _ a.runs.now a.trits.now a.so l.next.next.at l.left s.result s.ensures l.invariant.2 c.before.if2.true c.before.before.before.before.loop-test.true c.before.before.before.before.before.before.before.before.before.requires.2
 
 enum-known-added : tie.Need-enum-known-added invariant-loop decreases-loop
 enum-known-added c = search rules
@@ -68,7 +68,7 @@ returns-2 c =
     let a = c.before.before.before.before.before.before.before.before.before.before.before.before.before.before.args in
     let l = c.before.before.before.before.before.before.before.before.before.before.loop in
     let s = c.before.before.before.before.before.before.before.before.spot-with in
-    spot-full a.text.now _ a.runs.now a.trits.now a.so l.next.next.at l.left s.result s.ensures l.invariant.2 c.before.before.before.before.before.before.if2.true c.before.before.before.before.before.before.before.before.before.loop-test.true (rw c.enum_told.given.1 at c.before.before.before.before.add-piece.ensures)
+    spot_full a.text.now _ a.runs.now a.trits.now a.so l.next.next.at l.left s.result s.ensures l.invariant.2 c.before.before.before.before.before.before.if2.true c.before.before.before.before.before.before.before.before.before.loop-test.true (rw c.enum_told.given.1 at c.before.before.before.before.add-piece.ensures)
 
 or-none-requires : tie.Need-or-none-requires invariant-loop decreases-loop
 or-none-requires c κs = tt
@@ -85,7 +85,7 @@ loop-again c =
     let l = c.before.before.before.before.before.before.before.before.before.before.before.before.loop in
     let s = c.before.before.before.before.before.before.before.before.before.before.spot-with in
     let g = c.before.before.before.before.before.before.add-piece in
-    (omega (arith, l.invariant.0, g.auto), l.invariant.1, spot-more a.text.now _ a.runs.now a.trits.now a.so l.next.next.at l.left s.result s.ensures l.invariant.2 c.before.before.before.before.before.before.before.before.if2.true c.before.before.before.before.before.before.before.before.before.before.before.loop-test.true (rw c.before.before.added.given.1 at g.ensures) c.or_none.ensures)
+    (omega (arith, l.invariant.0, g.auto), l.invariant.1, spot_more a.text.now _ a.runs.now a.trits.now a.so l.next.next.at l.left s.result s.ensures l.invariant.2 c.before.before.before.before.before.before.before.before.if2.true c.before.before.before.before.before.before.before.before.before.before.before.loop-test.true (rw c.before.before.added.given.1 at g.ensures) c.or_none.ensures)
 
 inside-with-requires : tie.Need-inside-with-requires invariant-loop decreases-loop
 inside-with-requires c κs = search rules

@@ -2,7 +2,7 @@ use mathlib.Core.Path.{◌≡◌, refl, sym, ◌∙◌}
 use native.Mathlib.Omega.{arith}
 use lib.ListN.{length}
 use Rattle.saying.specs.Values.{base_bits, copies}
-use Rattle.laying.proofs.Turning.{Turned, turned_none, copies-room, copies-turn, copies-stop, copies-end, copies_nothing}
+use Rattle.laying.proofs.Turning.{Turned, turned_none, copies_room, copies_turn, copies_stop, copies_end, copies_nothing}
 use borrow.Author.Rules.{rules}
 use Rattle.cellruns.proofs.parts.add_copies.Statement.{statement}
 use Rattle.cellruns.proofs.parts.add_copies.Tie as tie
@@ -35,7 +35,7 @@ add-base-requires c κs =
     let s = c.before.before.before.before.before.before.before.before.before in
     let a = s.args in
     let l = c.before.before.before.loop in
-    (s.requires.0, s.requires.1, copies-room a.text.now a.base a.count l.left l.invariant.2 c.before.before.loop-test.true s.requires.1 s.requires.2)
+    (s.requires.0, s.requires.1, copies_room a.text.now a.base a.count l.left l.invariant.2 c.before.before.loop-test.true s.requires.1 s.requires.2)
 
 enum-known-added : tie.Need-enum-known-added invariant-loop decreases-loop
 enum-known-added c = search rules
@@ -56,7 +56,7 @@ returns-2 c =
     let s = c.before.before.before.before.before.before.before.before.before.before.before.before.before.before.before.before in
     let a = s.args in
     let l = c.before.before.before.before.before.before.before.before.before.before.loop in
-    copies-stop a.text.now a.base a.count l.left l.invariant.2 c.before.before.before.before.before.before.before.before.before.loop-test.true (rw c.enum_told.given.1 at c.before.before.before.before.before.before.add-base.ensures)
+    copies_stop a.text.now a.base a.count l.left l.invariant.2 c.before.before.before.before.before.before.before.before.before.loop-test.true (rw c.enum_told.given.1 at c.before.before.before.before.before.before.add-base.ensures)
 
 sub-left : tie.Need-overflow-sub-left invariant-loop decreases-loop
 sub-left c = search rules
@@ -70,7 +70,7 @@ loop-again c =
     let a = s.args in
     let l = c.before.before.before.before.before.before.before.before.before.before.before.loop in
     let g = c.before.before.before.before.before.before.before.add-base in
-    (omega (arith, l.invariant.0, g.auto), omega (arith, l.invariant.1, g.auto), copies-turn a.text.now a.base a.count l.left l.invariant.2 c.before.before.before.before.before.before.before.before.before.before.loop-test.true (rw c.before.added.given.1 at g.ensures))
+    (omega (arith, l.invariant.0, g.auto), omega (arith, l.invariant.1, g.auto), copies_turn a.text.now a.base a.count l.left l.invariant.2 c.before.before.before.before.before.before.before.before.before.before.loop-test.true (rw c.before.added.given.1 at g.ensures))
 
 same-length-3 : tie.Need-same-length-3 invariant-loop decreases-loop
 same-length-3 c = search rules
@@ -83,7 +83,7 @@ returns-3 c =
     let s = c.before.before.before.before.before.before.before in
     let a = s.args in
     let l = c.before.loop in
-    copies-end a.text.now a.base a.count l.left l.invariant.2 c.loop-test.false
+    copies_end a.text.now a.base a.count l.left l.invariant.2 c.loop-test.false
 
 pub add_copies_spec : {M : Type 1} → statement M
 add_copies_spec =
