@@ -1,6 +1,8 @@
 // Brackets: what operands, sets and their parts are, and the words of a declaration, as definitions, values and laws. The code that takes
 // tokens as parts stands in tokenparts, that of words in keywords, and what stands between brackets is measured in enclosed and sets and
 // walked over in walks and tours, all above it; the tokens stand below.
+#![tactic(auto)]
+
 use ground::{Place, Refusal};
 use lexis::{Reader, Token};
 

@@ -1,5 +1,7 @@
 // Lexis: from bytes to tokens. It promises that each token and each refusal 5 and 6 with its place are those that the definitions of
 // specs/ give. The form of declarations stands above it, the signs that tokens are made of below.
+#![tactic(auto)]
+
 pub mod tokens;
 
 use ground::{Place, Refusal};

@@ -1,6 +1,7 @@
 // Placing: the order in which cells are worked out or translated, and rings. It promises the order of document 01 and whether a cell is
 // left out, for the words of good tables. The graph and the cells stand below it; evaluating and translating above.
 #![tactic(auto)]
+
 mod search;
 mod turns;
 

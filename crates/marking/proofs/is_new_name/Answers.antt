@@ -1,4 +1,3 @@
-
 use Rattle.marking.proofs.is_new_name.Goals as goal
 
 pub returns : goal.returns

@@ -1,4 +1,3 @@
-
 use Rattle.numerals.proofs.width_at.Goals as goal
 
 pub returns : goal.returns

@@ -1,4 +1,3 @@
-
 use Rattle.strings.proofs.escapes.Goals as goal
 
 pub returns-then-is_hex : goal.returns-then-is_hex

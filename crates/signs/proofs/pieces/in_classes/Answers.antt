@@ -1,4 +1,3 @@
-
 use Rattle.signs.proofs.pieces.in_classes.Goals as goal
 
 pub returns : goal.returns
