@@ -1,5 +1,6 @@
 // Laying: the operands of a declaration as longest runs in the lent tables, as definitions, answers and laws: what stands in use, what a
 // part adds to it, and when a part has no bits. The form of operands stands below it; the code, in joining and cellruns, above.
+#![tactic(auto)]
 
 // How many run rows and run trits are in use.
 #[derive(Clone, Copy)]

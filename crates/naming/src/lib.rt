@@ -1,5 +1,7 @@
 // Naming: the full name of an ident, parent first. It promises the name, its length and every byte of the room as the definitions
 // of specs/ give them. The check of tables stands below it, the programs above.
+#![tactic(auto)]
+
 mod names;
 
 ghost use Rattle.std.specs.Prelude.{◌≡◌, ◌+◌};

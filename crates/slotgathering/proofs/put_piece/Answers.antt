@@ -24,4 +24,4 @@ pub shape_of-out : goal.shape_of-out
 shape_of-out c = c.loop-i.invariant.4.long
 
 pub returns : goal.returns
-returns c = let l = c in let a = c.args in let end = a.n + c.wide.result in (record { next = rw (gathering.rise-length a.slots.now a.at a.size) (omega (arith, c.wide.ensures.0)); holds = done end l.loop-i.invariant.4 (omega (arith, l.loop-i.invariant.0)) (gathering.rise_end a.slots.now l.loop-i.k end l.loop-i.i) }, omega (arith, c.wide.ensures.1))
+returns c = let l = c in let a = c.args in let end = a.n + c.wide.result in (record { next = rw (gathering.rise_length a.slots.now a.at a.size) (omega (arith, c.wide.ensures.0)); holds = done end l.loop-i.invariant.4 (omega (arith, l.loop-i.invariant.0)) (gathering.rise_end a.slots.now l.loop-i.k end l.loop-i.i) }, omega (arith, c.wide.ensures.1))

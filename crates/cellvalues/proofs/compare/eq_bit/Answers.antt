@@ -5,7 +5,7 @@ use Rattle.cells.proofs.Places as places
 use Rattle.cellvalues.proofs.compare.eq_bit.Goals as goal
 
 pub loop-i-init : goal.loop-i-init
-loop-i-init c = let a = c.args in (c.least-n.ensures, places.eq-all a.a.now a.b.now)
+loop-i-init c = let a = c.args in (c.least-n.ensures, places.eq_all a.a.now a.b.now)
 
 pub returns-then-clashes : goal.returns-then-clashes
 returns-then-clashes c =

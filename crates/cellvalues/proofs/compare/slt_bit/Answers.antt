@@ -7,7 +7,7 @@ use Rattle.cells.proofs.Places as places
 use Rattle.cellvalues.proofs.compare.slt_bit.Goals as goal
 
 pub returns-then-a-eq0 : goal.returns-then-a-eq0
-returns-then-a-eq0 c = let a = c.args in sym (places.slt-none a.a.now a.b.now c.if-a-eq0.true)
+returns-then-a-eq0 c = let a = c.args in sym (places.slt_none a.a.now a.b.now c.if-a-eq0.true)
 
 pub loop-i-init : goal.loop-i-init
 unfolding slt_bit

@@ -10,7 +10,7 @@ use Rattle.gathering.proofs.bits.put_const.Goals as goal
 pub returns-then-trits-low : goal.returns-then-trits-low
 returns-then-trits-low c =
     let a = c.args in
-    (gathering.put_as (put_nothing _ _) (gathering.const-none a.trits.now a.start a.size (omega (arith, c.if-trits-low.true, c.wide-low.ensures.0))), omega arith)
+    (gathering.put_as (put_nothing _ _) (gathering.const_none a.trits.now a.start a.size (omega (arith, c.if-trits-low.true, c.wide-low.ensures.0))), omega arith)
 
 pub loop-i-init : goal.loop-i-init
 loop-i-init c =
@@ -48,4 +48,4 @@ returns c =
     let a = c.args in
     let low = c.wide-low.result in
     let end = a.n + (c.least-high.result - low) in
-    (record { next = rw (gathering.const-length a.trits.now a.start a.size) (omega (arith, c.least-high.ensures, c.wide.ensures.0, c.if-trits-low.false, c.wide-low.ensures.0)); holds = done end l.loop-i.invariant.7 (omega (arith, l.loop-i.invariant.0)) (λ h. gathering.const_end a.trits.now low l.loop-i.k (omega (arith, l.loop-i.invariant))) }, omega (arith, c.least-high.ensures, c.wide.ensures))
+    (record { next = rw (gathering.const_length a.trits.now a.start a.size) (omega (arith, c.least-high.ensures, c.wide.ensures.0, c.if-trits-low.false, c.wide-low.ensures.0)); holds = done end l.loop-i.invariant.7 (omega (arith, l.loop-i.invariant.0)) (λ h. gathering.const_end a.trits.now low l.loop-i.k (omega (arith, l.loop-i.invariant))) }, omega (arith, c.least-high.ensures, c.wide.ensures))

@@ -34,4 +34,4 @@ returns c =
     let l = c in
     let a = c.args in
     let end = a.n + c.wide.result in
-    (record { next = rw (gathering.rise-length a.values.now a.at a.size) (omega (arith, c.wide.ensures.0)); holds = done end l.loop-i.invariant.4 (omega (arith, l.loop-i.invariant.0)) (gathering.rise_end a.values.now l.loop-i.k end l.loop-i.i) }, omega (arith, c.wide.ensures.1))
+    (record { next = rw (gathering.rise_length a.values.now a.at a.size) (omega (arith, c.wide.ensures.0)); holds = done end l.loop-i.invariant.4 (omega (arith, l.loop-i.invariant.0)) (gathering.rise_end a.values.now l.loop-i.k end l.loop-i.i) }, omega (arith, c.wide.ensures.1))

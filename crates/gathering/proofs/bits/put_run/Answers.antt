@@ -6,7 +6,7 @@ use Rattle.gathering.proofs.bits.put_run.Goals as goal
 pub returns-then-cell-eq0 : goal.returns-then-cell-eq0
 returns-then-cell-eq0 c =
     let a = c.args in
-    (put_as c.put_Const.ensures.0 (const_held a.runs.now a.trits.now (a.k * 3) c.word_at-cell.result c.word_at-first.result c.word_at-size.result c.word_at-cell.ensures c.word_at-first.ensures c.word_at-size.ensures (held_bits a.starts.now a.values.now) c.if-cell-eq0.true), c.put_Const.ensures.1)
+    (put_as c.put_const.ensures.0 (const_held a.runs.now a.trits.now (a.k * 3) c.word_at-cell.result c.word_at-first.result c.word_at-size.result c.word_at-cell.ensures c.word_at-first.ensures c.word_at-size.ensures (held_bits a.starts.now a.values.now) c.if-cell-eq0.true), c.put_const.ensures.1)
 
 pub returns : goal.returns
 returns c =
