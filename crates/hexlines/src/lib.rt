@@ -1,6 +1,7 @@
 // The lines of a listing: a record in hex, and the records of a list told one after the other, read through the record reader. It promises
 // the bytes of each line; no contract can say what is written. Load list and record reader stand below it, telling and the
 // listing above.
+#![tactic(auto)]
 ghost use Rattle.std.specs.Prelude.{◌≡◌, ℕ, ◌<◌, ◌/◌, ◌%◌};
 ghost use Rattle.hexlines.specs.Lines.{digit_of, line_of};
 

@@ -1,5 +1,6 @@
 // The C library's functions of written texts: the canonical text and full names, the answers told as numbers, with refusal number 0 where
 // nothing is refused. It promises what printing and naming promise, every byte of the room included.
+#![tactic(auto)]
 ghost use Rattle.std.specs.Prelude.{◌≡◌};
 ghost use Rattle.printing.specs.Outcome.{print_of};
 ghost use Rattle.naming.specs.Names.{name_of};
