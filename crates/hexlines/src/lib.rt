@@ -2,6 +2,7 @@
 // the bytes of each line; no contract can say what is written. Load list and record reader stand below it, telling and the
 // listing above.
 #![tactic(auto)]
+
 ghost use Rattle.std.specs.Prelude.{◌≡◌, ℕ, ◌<◌, ◌/◌, ◌%◌};
 ghost use Rattle.hexlines.specs.Lines.{digit_of, line_of};
 

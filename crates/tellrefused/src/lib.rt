@@ -1,5 +1,6 @@
 // A refusal as the programs of worked cases say it: its number and its place. What is written is held by their expected output.
 #![tactic(auto)]
+
 use ground::Refusal;
 use libc::STDOUT_FILENO;
 

@@ -2,6 +2,7 @@
 // stand for themselves as usual, `\xHH` for a byte, `\{N|BODY}` for BODY N times with `\#` as the number of the round, all other bytes
 // for themselves. It promises that nothing is written past a room; what a line says is held by the programs' expected output.
 #![tactic(auto)]
+
 ghost use Rattle.std.specs.Prelude.{◌<◌, ◌≤◌, length};
 
 use finding::{find, hex};

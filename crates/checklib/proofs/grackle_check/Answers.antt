@@ -1,4 +1,3 @@
-
 use Rattle.checklib.proofs.grackle_check.Goals as goal
 
 pub returns : goal.returns

@@ -1,4 +1,3 @@
-
 use Rattle.checklib.proofs.tell_check.Goals as goal
 
 pub returns-in-Good : goal.returns-in-Good

@@ -1,4 +1,3 @@
-
 use Rattle.checklib.proofs.tell_pad.Goals as goal
 
 pub returns-in-Row : goal.returns-in-Row

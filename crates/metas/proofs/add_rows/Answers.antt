@@ -1,4 +1,3 @@
-
 use Rattle.metas.proofs.add_rows.Goals as goal
 
 pub returns : goal.returns

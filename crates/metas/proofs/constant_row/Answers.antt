@@ -1,4 +1,3 @@
-
 use Rattle.metas.proofs.constant_row.Goals as goal
 
 pub returns : goal.returns

@@ -1,4 +1,3 @@
-
 use Rattle.metas.proofs.row_in.Goals as goal
 
 pub returns : goal.returns

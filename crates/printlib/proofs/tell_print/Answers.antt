@@ -1,4 +1,3 @@
-
 use Rattle.printlib.proofs.tell_print.Goals as goal
 
 pub returns-in-Length : goal.returns-in-Length

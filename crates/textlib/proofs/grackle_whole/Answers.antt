@@ -1,4 +1,3 @@
-
 use Rattle.textlib.proofs.grackle_whole.Goals as goal
 
 pub returns-in-Sound : goal.returns-in-Sound

@@ -1,4 +1,3 @@
-
 use Rattle.wiring.proofs.is_misfit.Goals as goal
 
 pub returns-then-fits : goal.returns-then-fits

@@ -1,4 +1,3 @@
-
 use Rattle.wiring.proofs.is_misnamed.Goals as goal
 
 pub returns : goal.returns

@@ -1,4 +1,3 @@
-
 use Rattle.wiring.proofs.is_nameless.Goals as goal
 
 pub returns-then-has_name : goal.returns-then-has_name

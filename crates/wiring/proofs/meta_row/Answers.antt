@@ -1,4 +1,3 @@
-
 use Rattle.wiring.proofs.meta_row.Goals as goal
 
 pub returns : goal.returns

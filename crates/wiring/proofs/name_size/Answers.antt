@@ -1,4 +1,3 @@
-
 use Rattle.wiring.proofs.name_size.Goals as goal
 
 pub returns-then-has_name : goal.returns-then-has_name
