@@ -2,6 +2,7 @@
 // names the list that the lines behind it belong to, by the first letter of its name, and is written as it is; no case begins so. Each
 // other line is a case: it is written, with the answer of its list behind it. The expected answers stand in `stdout`, derived from the
 // documents. The module of each list tells how its lines read and what is answered.
+#![tactic(auto)]
 mod alterings;
 mod bits;
 mod evaluations;
