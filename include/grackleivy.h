@@ -1,7 +1,7 @@
 /* Grackleivy for C: netlists of control cards read, checked, printed, worked out, translated and run.
  *
- * The library is target/staticlib/libgrackleivy.a (made by `include/library`), for x86-64. It keeps nothing from call to call,
- * takes no memory of its own but its stack, and calls nothing.
+ * The library is target/staticlib/libgrackleivy.a, for x86-64; `include/library` makes it of the proved crate crates/grackleivy. It keeps
+ * nothing from call to call, takes no memory of its own but its stack, and calls nothing.
  *
  * Every slice is lent as a pointer and a length. A slice of length 0 still has a pointer that is not null, and no slice that is written
  * overlaps another one. Nothing else is asked: any content of text, tables, lists and rooms gets its answer.

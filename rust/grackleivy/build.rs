@@ -1,4 +1,4 @@
-//! Links the proved library, `target/staticlib/libgrackleivy.a` of this repository.
+//! Links the proved library, `target/staticlib/libgrackleivy.a` of this repository, which `include/library` makes of crates/grackleivy.
 
 use std::env;
 use std::path::Path;
