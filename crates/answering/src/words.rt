@@ -1,5 +1,6 @@
 // Words of tables, and the end of an answer.
-use libc::STDERR_FILENO;
+use std::io;
+use std::io::Write;
 
 fn wide(word: u32) -> usize {
     word as usize
@@ -14,12 +15,14 @@ pub(crate) fn word_at(words: &[u32], at: usize) -> usize {
 }
 
 // Standard output may be closed or full; an answer cut short must not be taken for a whole one.
-pub(crate) fn tell_written(whole: bool) {
-    if whole {
-        return;
+pub(crate) fn tell_written<E: Write>(err: &mut E, written: io::Result<()>) -> io::Result<()> {
+    if written.is_ok() {
+        return Ok(());
     }
-    io::write_all(
-        STDERR_FILENO,
-        b"grackle: the answer could not be written whole\n",
-    );
+    err.write_all(b"grackle: the answer could not be written whole\n")
+}
+
+// The rows of good tables name strings that there are; of others an answer is cut short.
+pub(crate) fn cut_short() -> io::Result<()> {
+    Err(io::Error::from(io::ErrorKind::InvalidData))
 }

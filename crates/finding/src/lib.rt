@@ -1,5 +1,7 @@
 // A digit's value, and the place of a byte in a line: what the lines of worked texts are taken apart with. It promises where each lies; what
 // a line says is held by the programs' expected output.
+#![tactic(auto)]
+
 ghost use Rattle.std.specs.Prelude.{◌<◌, ◌≤◌, length};
 
 // The value of a digit 0-9a-f; 0 for any other byte.

@@ -1,12 +1,15 @@
 // The lines of a listing: a record in hex, and the records of a list told one after the other, read through the record reader. It promises
 // the bytes of each line; no contract can say what is written. Load list and record reader stand below it, telling and the
 // listing above.
+#![tactic(auto)]
+
 ghost use Rattle.std.specs.Prelude.{◌≡◌, ℕ, ◌<◌, ◌/◌, ◌%◌};
 ghost use Rattle.hexlines.specs.Lines.{digit_of, line_of};
 
-use libc::STDOUT_FILENO;
 use loadlist::Record;
 use records::{first, is_left, moved, record_of};
+use std::io;
+use std::io::Write;
 
 fn digit(x: u8) -> u8
     requires { x < 16 }
@@ -71,17 +74,18 @@ pub fn line_of(r: Record) -> [u8; 17]
     ]
 }
 
-fn tell_record(r: Record) {
+fn tell_record<W: Write>(to: &mut W, r: Record) -> io::Result<()> {
     let line = line_of(r);
-    io::write_all(STDOUT_FILENO, &line);
+    to.write_all(&line)
 }
 
 // The records of a list, a line each.
-pub fn tell_list(list: &[u8]) {
+pub fn tell_list<W: Write>(to: &mut W, list: &[u8]) -> io::Result<()> {
     let mut reader = first(list);
     while is_left(reader) {
         let r = record_of(reader);
-        tell_record(r);
+        tell_record(to, r)?;
         reader = moved(reader);
     }
+    Ok(())
 }

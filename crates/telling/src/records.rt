@@ -1,24 +1,19 @@
 // The records of a load list, a line of hex each.
-ghost use Rattle.std.specs.Prelude.{◌<◌};
-
 use hexlines::line_of;
 use loadlist::Record;
 use loadlist::records::record_at;
+use std::io;
+use std::io::Write;
 
-fn tell_record(to: i32, r: Record) -> bool {
+fn tell_record<W: Write>(to: &mut W, r: Record) -> io::Result<()> {
     let line = line_of(r);
-    io::write_all(to, &line)
+    to.write_all(&line)
 }
 
-// The first n records; whether all were written.
-pub fn tell_list(to: i32, list: &[u8], n: usize) -> bool {
-    let mut k: usize = 0;
-    while k < n {
-        if tell_record(to, record_at(list, k)) {
-            k += 1;
-        } else {
-            return false;
-        }
+// The first n records.
+pub fn tell_list<W: Write>(to: &mut W, list: &[u8], n: usize) -> io::Result<()> {
+    for k in 0..n {
+        tell_record(to, record_at(list, k))?;
     }
-    true
+    Ok(())
 }

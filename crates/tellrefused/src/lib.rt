@@ -1,11 +1,13 @@
 // A refusal as the programs of worked cases say it: its number and its place. What is written is held by their expected output.
-use ground::Refusal;
-use libc::STDOUT_FILENO;
+#![tactic(auto)]
 
-pub fn tell_refused(r: Refusal) {
-    io::write_all(STDOUT_FILENO, b"refused ");
-    io::print_decimal(STDOUT_FILENO, r.number as u64);
-    io::write_all(STDOUT_FILENO, b" at ");
+use ground::Refusal;
+use std::io;
+use std::io::Write;
+
+pub fn tell_refused<W: Write>(to: &mut W, r: Refusal) -> io::Result<()> {
+    let number = r.number;
     let place = r.place;
-    io::print_decimal(STDOUT_FILENO, place.at as u64);
+    let at = place.at;
+    write!(to, "refused {number} at {at}")
 }
