@@ -11,14 +11,25 @@ use std::io::Write;
 use telling::bits::{put_bits, tell_bits};
 use telling::names::tell_name;
 
-fn give_bits<O: Write, E: Write>(out: &mut O, err: &mut E, bits: &[u8], n: usize) -> io::Result<bool> {
+fn give_bits<O: Write, E: Write>(
+    out: &mut O,
+    err: &mut E,
+    bits: &[u8],
+    n: usize,
+) -> io::Result<bool> {
     let written = tell_bits(out, bits, 0, n);
     tell_written(err, written)?;
     Ok(true)
 }
 
 // A load list's outputs have no names.
-pub(crate) fn run_list<O: Write, E: Write>(out: &mut O, err: &mut E, path: &[u8], list: &[u8], word: &[u8]) -> io::Result<bool> {
+pub(crate) fn run_list<O: Write, E: Write>(
+    out: &mut O,
+    err: &mut E,
+    path: &[u8],
+    list: &[u8],
+    word: &[u8],
+) -> io::Result<bool> {
     let mut ins = [0u8; 8193];
     let mut outs = [0u8; 8192];
     let mut work = [0u8; 8192];
@@ -76,7 +87,12 @@ fn output_bits(rows: &[u32], row: usize) -> usize {
     0
 }
 
-fn tell_cell_name<O: Write>(out: &mut O, rows: &[u32], strings: &[u8], row: usize) -> io::Result<()> {
+fn tell_cell_name<O: Write>(
+    out: &mut O,
+    rows: &[u32],
+    strings: &[u8],
+    row: usize,
+) -> io::Result<()> {
     let start = cell_word(rows, row, 2);
     let size = cell_word(rows, row, 3);
     if start <= strings.len() {
@@ -88,7 +104,15 @@ fn tell_cell_name<O: Write>(out: &mut O, rows: &[u32], strings: &[u8], row: usiz
 }
 
 // The line of an output: its name and its bits. Other cells have none.
-fn tell_row<O: Write>(out: &mut O, rows: &[u32], strings: &[u8], row: usize, bits: &[u8], at: usize, n: usize) -> io::Result<()> {
+fn tell_row<O: Write>(
+    out: &mut O,
+    rows: &[u32],
+    strings: &[u8],
+    row: usize,
+    bits: &[u8],
+    at: usize,
+    n: usize,
+) -> io::Result<()> {
     if n == 0 {
         return Ok(());
     }
@@ -108,7 +132,12 @@ fn behind(at: usize, n: usize) -> usize {
 }
 
 // The outputs by row, each behind the bits of those before.
-fn tell_outputs<O: Write>(out: &mut O, rows: &[u32], strings: &[u8], bits: &[u8]) -> io::Result<()> {
+fn tell_outputs<O: Write>(
+    out: &mut O,
+    rows: &[u32],
+    strings: &[u8],
+    bits: &[u8],
+) -> io::Result<()> {
     let mut at: usize = 0;
     for row in 0..512 {
         let n = output_bits(rows, row);
@@ -118,13 +147,27 @@ fn tell_outputs<O: Write>(out: &mut O, rows: &[u32], strings: &[u8], bits: &[u8]
     Ok(())
 }
 
-fn give_outputs<O: Write, E: Write>(out: &mut O, err: &mut E, rows: &[u32], strings: &[u8], bits: &[u8]) -> io::Result<bool> {
+fn give_outputs<O: Write, E: Write>(
+    out: &mut O,
+    err: &mut E,
+    rows: &[u32],
+    strings: &[u8],
+    bits: &[u8],
+) -> io::Result<bool> {
     let written = tell_outputs(out, rows, strings, bits);
     tell_written(err, written)?;
     Ok(true)
 }
 
-fn give<O: Write, E: Write>(out: &mut O, err: &mut E, rows: &[u32], strings: &[u8], bits: &[u8], n: usize, named: bool) -> io::Result<bool> {
+fn give<O: Write, E: Write>(
+    out: &mut O,
+    err: &mut E,
+    rows: &[u32],
+    strings: &[u8],
+    bits: &[u8],
+    n: usize,
+    named: bool,
+) -> io::Result<bool> {
     if named {
         return give_outputs(out, err, rows, strings, bits);
     }

@@ -9,7 +9,14 @@ fn tell_count<O: Write>(out: &mut O, n: usize, what: &[u8]) -> io::Result<()> {
     out.write_all(what)
 }
 
-fn tell_good<O: Write>(out: &mut O, path: &[u8], cells: usize, inputs: usize, outputs: usize, records: usize) -> io::Result<()> {
+fn tell_good<O: Write>(
+    out: &mut O,
+    path: &[u8],
+    cells: usize,
+    inputs: usize,
+    outputs: usize,
+    records: usize,
+) -> io::Result<()> {
     out.write_all(path)?;
     out.write_all(b": ok")?;
     tell_count(out, cells, b" cells")?;
@@ -20,7 +27,13 @@ fn tell_good<O: Write>(out: &mut O, path: &[u8], cells: usize, inputs: usize, ou
 }
 
 // The list itself tells how many input and output bits the netlist has.
-pub(crate) fn tell_counts<O: Write>(out: &mut O, path: &[u8], cells: usize, list: &[u8], records: usize) -> io::Result<bool> {
+pub(crate) fn tell_counts<O: Write>(
+    out: &mut O,
+    path: &[u8],
+    cells: usize,
+    list: &[u8],
+    records: usize,
+) -> io::Result<bool> {
     if records <= 8192 {
         if 8 * records <= list.len() {
             match check(&list[0..8 * records]) {

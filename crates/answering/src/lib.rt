@@ -20,7 +20,14 @@ use std::io;
 use std::io::Write;
 
 // A netlist is read into tables first.
-fn answer_text<O: Write, E: Write>(out: &mut O, err: &mut E, job: Job, path: &[u8], text: &[u8], word: &[u8]) -> io::Result<bool> {
+fn answer_text<O: Write, E: Write>(
+    out: &mut O,
+    err: &mut E,
+    job: Job,
+    path: &[u8],
+    text: &[u8],
+    word: &[u8],
+) -> io::Result<bool> {
     let mut rows = [0u32; 26307];
     let mut strings = [0u8; 16384];
     let mut trits = [0u8; 393728];
@@ -33,7 +40,14 @@ fn answer_text<O: Write, E: Write>(out: &mut O, err: &mut E, job: Job, path: &[u
 }
 
 // Whether the bytes were taken and answered; the path is the name that a refusal tells, the word what is asked beside: bits or a name.
-pub fn answer<O: Write, E: Write>(out: &mut O, err: &mut E, job: Job, path: &[u8], bytes: &[u8], word: &[u8]) -> io::Result<bool> {
+pub fn answer<O: Write, E: Write>(
+    out: &mut O,
+    err: &mut E,
+    job: Job,
+    path: &[u8],
+    bytes: &[u8],
+    word: &[u8],
+) -> io::Result<bool> {
     match job {
         Job::Run => run_list(out, err, path, bytes, word),
         _ => answer_text(out, err, job, path, bytes, word),
@@ -41,7 +55,12 @@ pub fn answer<O: Write, E: Write>(out: &mut O, err: &mut E, job: Job, path: &[u8
 }
 
 // The line of a file that cannot be read.
-pub fn tell_unread<O: Write, E: Write>(out: &mut O, err: &mut E, job: Job, path: &[u8]) -> io::Result<bool> {
+pub fn tell_unread<O: Write, E: Write>(
+    out: &mut O,
+    err: &mut E,
+    job: Job,
+    path: &[u8],
+) -> io::Result<bool> {
     match told_to(job) {
         Stream::Output => tell_unread_to(out, path),
         Stream::Error => tell_unread_to(err, path),

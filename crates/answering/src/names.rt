@@ -15,7 +15,12 @@ fn tell_line<O: Write>(out: &mut O, name: &[u8]) -> io::Result<()> {
 }
 
 // The first n bytes of a room, as a line; whether to go on.
-fn give_name<O: Write, E: Write>(out: &mut O, err: &mut E, room: &[u8], n: usize) -> io::Result<bool> {
+fn give_name<O: Write, E: Write>(
+    out: &mut O,
+    err: &mut E,
+    room: &[u8],
+    n: usize,
+) -> io::Result<bool> {
     if n <= room.len() {
         let written = tell_line(out, &room[0..n]);
         let whole = written.is_ok();
@@ -34,7 +39,15 @@ fn pass_over<E: Write>(err: &mut E, path: &[u8], g: Refusal) -> io::Result<bool>
 }
 
 // The room is longer than every name: strings have 16,384 bytes in all, and each of 512 rows an index of 11 and a `/` at most.
-fn tell_ident<O: Write, E: Write>(out: &mut O, err: &mut E, path: &[u8], rows: &[u32], strings: &[u8], trits: &[u8], row: usize) -> io::Result<bool> {
+fn tell_ident<O: Write, E: Write>(
+    out: &mut O,
+    err: &mut E,
+    path: &[u8],
+    rows: &[u32],
+    strings: &[u8],
+    trits: &[u8],
+    row: usize,
+) -> io::Result<bool> {
     let mut room = [0u8; 24000];
     let r = full_name(rows, strings, trits, row, &mut room);
     match r {
@@ -44,7 +57,14 @@ fn tell_ident<O: Write, E: Write>(out: &mut O, err: &mut E, path: &[u8], rows: &
 }
 
 // The rows of metadata in their order; 512 are the most there are.
-pub(crate) fn tell_names<O: Write, E: Write>(out: &mut O, err: &mut E, path: &[u8], rows: &[u32], strings: &[u8], trits: &[u8]) -> io::Result<bool> {
+pub(crate) fn tell_names<O: Write, E: Write>(
+    out: &mut O,
+    err: &mut E,
+    path: &[u8],
+    rows: &[u32],
+    strings: &[u8],
+    trits: &[u8],
+) -> io::Result<bool> {
     let count = word_at(rows, 0);
     for row in 0..count {
         if !tell_ident(out, err, path, rows, strings, trits, row)? {
@@ -88,7 +108,12 @@ fn tell_pad_rows<O: Write>(out: &mut O, rows: &[u32], strings: &[u8]) -> io::Res
     Ok(())
 }
 
-pub(crate) fn tell_pads<O: Write, E: Write>(out: &mut O, err: &mut E, rows: &[u32], strings: &[u8]) -> io::Result<bool> {
+pub(crate) fn tell_pads<O: Write, E: Write>(
+    out: &mut O,
+    err: &mut E,
+    rows: &[u32],
+    strings: &[u8],
+) -> io::Result<bool> {
     let written = tell_pad_rows(out, rows, strings);
     tell_written(err, written)?;
     Ok(true)

@@ -18,7 +18,13 @@ pub(crate) fn refuse<W: Write>(to: &mut W, path: &[u8], g: Refusal) -> io::Resul
 }
 
 // A refusal, told where the job has it told.
-pub(crate) fn refuse_job<O: Write, E: Write>(out: &mut O, err: &mut E, job: Job, path: &[u8], g: Refusal) -> io::Result<bool> {
+pub(crate) fn refuse_job<O: Write, E: Write>(
+    out: &mut O,
+    err: &mut E,
+    job: Job,
+    path: &[u8],
+    g: Refusal,
+) -> io::Result<bool> {
     match told_to(job) {
         Stream::Output => refuse(out, path, g),
         Stream::Error => refuse(err, path, g),
@@ -36,7 +42,14 @@ fn give<O: Write, E: Write>(out: &mut O, err: &mut E, bytes: &[u8], n: usize) ->
 }
 
 // Six times the longest text that can be read again; a netlist of many long constants may still need more, and is refused 24.
-fn print_tables<O: Write, E: Write>(out: &mut O, err: &mut E, path: &[u8], rows: &[u32], strings: &[u8], trits: &[u8]) -> io::Result<bool> {
+fn print_tables<O: Write, E: Write>(
+    out: &mut O,
+    err: &mut E,
+    path: &[u8],
+    rows: &[u32],
+    strings: &[u8],
+    trits: &[u8],
+) -> io::Result<bool> {
     let mut room = [0u8; 393728];
     let r = print_text(rows, strings, trits, &mut room);
     match r {
@@ -45,21 +58,39 @@ fn print_tables<O: Write, E: Write>(out: &mut O, err: &mut E, path: &[u8], rows:
     }
 }
 
-fn give_records<O: Write, E: Write>(out: &mut O, err: &mut E, list: &[u8], n: usize) -> io::Result<bool> {
+fn give_records<O: Write, E: Write>(
+    out: &mut O,
+    err: &mut E,
+    list: &[u8],
+    n: usize,
+) -> io::Result<bool> {
     if n <= 8192 {
         return give(out, err, list, 8 * n);
     }
     Ok(false)
 }
 
-fn give_lines<O: Write, E: Write>(out: &mut O, err: &mut E, list: &[u8], n: usize) -> io::Result<bool> {
+fn give_lines<O: Write, E: Write>(
+    out: &mut O,
+    err: &mut E,
+    list: &[u8],
+    n: usize,
+) -> io::Result<bool> {
     let written = tell_list(out, list, n);
     tell_written(err, written)?;
     Ok(true)
 }
 
 // The list of a netlist: counted, as lines of hex, or as bytes.
-fn give_list<O: Write, E: Write>(out: &mut O, err: &mut E, job: Job, path: &[u8], cells: usize, list: &[u8], n: usize) -> io::Result<bool> {
+fn give_list<O: Write, E: Write>(
+    out: &mut O,
+    err: &mut E,
+    job: Job,
+    path: &[u8],
+    cells: usize,
+    list: &[u8],
+    n: usize,
+) -> io::Result<bool> {
     match job {
         Job::Check => tell_counts(out, path, cells, list, n),
         Job::List => give_lines(out, err, list, n),
@@ -67,7 +98,15 @@ fn give_list<O: Write, E: Write>(out: &mut O, err: &mut E, job: Job, path: &[u8]
     }
 }
 
-fn translate_tables<O: Write, E: Write>(out: &mut O, err: &mut E, job: Job, path: &[u8], rows: &[u32], strings: &[u8], trits: &[u8]) -> io::Result<bool> {
+fn translate_tables<O: Write, E: Write>(
+    out: &mut O,
+    err: &mut E,
+    job: Job,
+    path: &[u8],
+    rows: &[u32],
+    strings: &[u8],
+    trits: &[u8],
+) -> io::Result<bool> {
     let mut list = [0u8; 65536];
     let mut work = [0u32; 8192];
     let cells = word_at(rows, 2);

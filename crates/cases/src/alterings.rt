@@ -89,7 +89,13 @@ fn looks_up(r: Found) -> bool {
     }
 }
 
-fn tell_bad<W: Write>(to: &mut W, g: Refusal, rows: &[u32], strings: &[u8], trits: &[u8]) -> io::Result<()> {
+fn tell_bad<W: Write>(
+    to: &mut W,
+    g: Refusal,
+    rows: &[u32],
+    strings: &[u8],
+    trits: &[u8],
+) -> io::Result<()> {
     tell_refused(to, g)?;
     tell_refusals(to, g, rows, strings, trits)
 }
@@ -137,7 +143,11 @@ fn tell_narrow<W: Write>(to: &mut W, text: &[u8]) -> io::Result<()> {
     let mut work = short_work();
     let r = read_text(text, &mut rows, &mut strings, &mut trits, &mut work);
     tell_unless(to, is_refused(r, 1), b" (read in short work space)")?;
-    tell_unless(to, lent(&rows), b" (rows beside short work space are changed)")?;
+    tell_unless(
+        to,
+        lent(&rows),
+        b" (rows beside short work space are changed)",
+    )?;
     tell_unless(to, lent(&work), b" (short work space is changed)")
 }
 

@@ -46,30 +46,57 @@ fn evaluate_part(
 }
 
 // A room just as long as the answer takes it.
-fn tell_exact<W: Write>(to: &mut W, rows: &[u32], strings: &[u8], trits: &[u8], ins: &[u8], bits: &[u8], n: usize) -> io::Result<()> {
+fn tell_exact<W: Write>(
+    to: &mut W,
+    rows: &[u32],
+    strings: &[u8],
+    trits: &[u8],
+    ins: &[u8],
+    bits: &[u8],
+    n: usize,
+) -> io::Result<()> {
     let mut room = [7u8; 4100];
     let r = evaluate_part(rows, strings, trits, ins, &mut room, n);
     tell_unless(to, gives(r, n), b" (not in a room just as long)")?;
-    tell_unless(to, same_bytes(&room, bits, n),
+    tell_unless(
+        to,
+        same_bytes(&room, bits, n),
         b" (other bits in a room just as long)",
     )?;
     tell_unless(to, kept(&room, n), b" (past a room just as long)")
 }
 
 // A room one byte short is refused 24 at 0, and nothing is written.
-fn tell_short<W: Write>(to: &mut W, rows: &[u32], strings: &[u8], trits: &[u8], ins: &[u8], n: usize) -> io::Result<()> {
+fn tell_short<W: Write>(
+    to: &mut W,
+    rows: &[u32],
+    strings: &[u8],
+    trits: &[u8],
+    ins: &[u8],
+    n: usize,
+) -> io::Result<()> {
     if n == 0 {
         return Ok(());
     }
     let mut room = [7u8; 4100];
     let r = evaluate_part(rows, strings, trits, ins, &mut room, n - 1);
-    tell_unless(to, is_refused(r, 24),
+    tell_unless(
+        to,
+        is_refused(r, 24),
         b" (in a room one byte short not refused 24 at 0)",
     )?;
     tell_unless(to, kept(&room, 0), b" (a room one byte short is changed)")
 }
 
-fn tell_outputs<W: Write>(to: &mut W, rows: &[u32], strings: &[u8], trits: &[u8], ins: &[u8], room: &[u8], n: usize) -> io::Result<()> {
+fn tell_outputs<W: Write>(
+    to: &mut W,
+    rows: &[u32],
+    strings: &[u8],
+    trits: &[u8],
+    ins: &[u8],
+    room: &[u8],
+    n: usize,
+) -> io::Result<()> {
     tell_bits(to, room, n)?;
     tell_unless(to, kept(room, n), b" (past the answer)")?;
     tell_exact(to, rows, strings, trits, ins, room, n)?;
@@ -77,7 +104,13 @@ fn tell_outputs<W: Write>(to: &mut W, rows: &[u32], strings: &[u8], trits: &[u8]
 }
 
 // The room is longer than every answer: outputs have 4,096 bits in all.
-fn tell_tables<W: Write>(to: &mut W, ins: &[u8], rows: &[u32], strings: &[u8], trits: &[u8]) -> io::Result<()> {
+fn tell_tables<W: Write>(
+    to: &mut W,
+    ins: &[u8],
+    rows: &[u32],
+    strings: &[u8],
+    trits: &[u8],
+) -> io::Result<()> {
     let mut room = [7u8; 4100];
     let mut work = [7u32; 8193];
     let r = evaluate(rows, strings, trits, ins, &mut room, &mut work);
@@ -88,7 +121,14 @@ fn tell_tables<W: Write>(to: &mut W, ins: &[u8], rows: &[u32], strings: &[u8], t
     tell_unless(to, clear(&work, 8192), b" (work space is not clear)")
 }
 
-fn tell_answer<W: Write>(to: &mut W, r: Read, ins: &[u8], rows: &[u32], strings: &[u8], trits: &[u8]) -> io::Result<()> {
+fn tell_answer<W: Write>(
+    to: &mut W,
+    r: Read,
+    ins: &[u8],
+    rows: &[u32],
+    strings: &[u8],
+    trits: &[u8],
+) -> io::Result<()> {
     match r {
         Read::Refused(g) => tell_refused(to, g),
         Read::Accepted => tell_tables(to, ins, rows, strings, trits),

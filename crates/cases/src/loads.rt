@@ -66,11 +66,14 @@ fn least(a: usize, b: usize) -> usize
 }
 
 // A translation into the first n bytes of a room, in work space that must be clear behind it.
-fn translate_part<W: Write>(to: &mut W, rows: &[u32],
+fn translate_part<W: Write>(
+    to: &mut W,
+    rows: &[u32],
     strings: &[u8],
     trits: &[u8],
     room: &mut [u8],
-    n: usize) -> io::Result<Translated> {
+    n: usize,
+) -> io::Result<Translated> {
     let mut work = [7u32; 8193];
     let end = least(n, room.len());
     let r = translate(rows, strings, trits, &mut room[0..end], &mut work);
@@ -86,21 +89,40 @@ fn list_room() -> [u8; 65540]
 }
 
 // A room just as long as the list takes it.
-fn tell_exact<W: Write>(to: &mut W, rows: &[u32], strings: &[u8], trits: &[u8], list: &[u8], count: usize, n: usize) -> io::Result<()> {
+fn tell_exact<W: Write>(
+    to: &mut W,
+    rows: &[u32],
+    strings: &[u8],
+    trits: &[u8],
+    list: &[u8],
+    count: usize,
+    n: usize,
+) -> io::Result<()> {
     let mut room = list_room();
     let r = translate_part(to, rows, strings, trits, &mut room, n)?;
     tell_unless(to, has(r, count), b" (not in a room just as long)")?;
-    tell_unless(to, same_bytes(&room, list, n),
+    tell_unless(
+        to,
+        same_bytes(&room, list, n),
         b" (another list in a room just as long)",
     )?;
     tell_unless(to, kept(&room, n), b" (past a room just as long)")
 }
 
 // A room too short is refused this number at 0, and nothing is written.
-fn tell_short<W: Write>(to: &mut W, rows: &[u32], strings: &[u8], trits: &[u8], n: usize, number: u8) -> io::Result<()> {
+fn tell_short<W: Write>(
+    to: &mut W,
+    rows: &[u32],
+    strings: &[u8],
+    trits: &[u8],
+    n: usize,
+    number: u8,
+) -> io::Result<()> {
     let mut room = list_room();
     let r = translate_part(to, rows, strings, trits, &mut room, n)?;
-    tell_unless(to, is_refused(r, number),
+    tell_unless(
+        to,
+        is_refused(r, number),
         b" (in a room too short not refused as it must be)",
     )?;
     tell_unless(to, kept(&room, 0), b" (a room too short is changed)")
@@ -111,16 +133,27 @@ fn tell_narrow<W: Write>(to: &mut W, rows: &[u32], strings: &[u8], trits: &[u8])
     let mut room = list_room();
     let mut work = [7u32; 8191];
     let r = translate(rows, strings, trits, &mut room, &mut work);
-    tell_unless(to, is_refused(r, 1),
+    tell_unless(
+        to,
+        is_refused(r, 1),
         b" (work space one word short not refused 1 at 0)",
     )?;
-    tell_unless(to, kept(&room, 0),
+    tell_unless(
+        to,
+        kept(&room, 0),
         b" (a room beside short work space is changed)",
     )?;
     tell_unless(to, lent(&work), b" (short work space is changed)")
 }
 
-fn tell_made<W: Write>(to: &mut W, rows: &[u32], strings: &[u8], trits: &[u8], room: &[u8], count: usize) -> io::Result<()> {
+fn tell_made<W: Write>(
+    to: &mut W,
+    rows: &[u32],
+    strings: &[u8],
+    trits: &[u8],
+    room: &[u8],
+    count: usize,
+) -> io::Result<()> {
     if 8192 < count {
         return to.write_all(b"more records than there may be");
     }
@@ -135,7 +168,14 @@ fn tell_made<W: Write>(to: &mut W, rows: &[u32], strings: &[u8], trits: &[u8], r
 }
 
 // A ground before 24 is told in a room of no bytes too.
-fn tell_none<W: Write>(to: &mut W, g: Refusal, rows: &[u32], strings: &[u8], trits: &[u8], room: &[u8]) -> io::Result<()> {
+fn tell_none<W: Write>(
+    to: &mut W,
+    g: Refusal,
+    rows: &[u32],
+    strings: &[u8],
+    trits: &[u8],
+    room: &[u8],
+) -> io::Result<()> {
     let number = g.number;
     tell_unwritten(to, g, room)?;
     tell_short(to, rows, strings, trits, 0, number)
@@ -151,7 +191,13 @@ fn tell_tables<W: Write>(to: &mut W, rows: &[u32], strings: &[u8], trits: &[u8])
     tell_narrow(to, rows, strings, trits)
 }
 
-fn tell_answer<W: Write>(to: &mut W, r: Read, rows: &[u32], strings: &[u8], trits: &[u8]) -> io::Result<()> {
+fn tell_answer<W: Write>(
+    to: &mut W,
+    r: Read,
+    rows: &[u32],
+    strings: &[u8],
+    trits: &[u8],
+) -> io::Result<()> {
     match r {
         Read::Refused(g) => tell_refused(to, g),
         Read::Accepted => tell_tables(to, rows, strings, trits),

@@ -72,27 +72,54 @@ fn name_part(
 }
 
 // A room just as long as the name takes it.
-fn tell_exact<W: Write>(to: &mut W, rows: &[u32], strings: &[u8], trits: &[u8], row: usize, name: &[u8], n: usize) -> io::Result<()> {
+fn tell_exact<W: Write>(
+    to: &mut W,
+    rows: &[u32],
+    strings: &[u8],
+    trits: &[u8],
+    row: usize,
+    name: &[u8],
+    n: usize,
+) -> io::Result<()> {
     let mut room = [7u8; 24000];
     let r = name_part(rows, strings, trits, row, &mut room, n);
     tell_unless(to, has_length(r, n), b" (not in a room just as long)")?;
-    tell_unless(to, same_bytes(&room, name, n),
+    tell_unless(
+        to,
+        same_bytes(&room, name, n),
         b" (another name in a room just as long)",
     )?;
     tell_unless(to, kept(&room, n), b" (past a room just as long)")
 }
 
 // A room one byte short is refused 24 at 0, and nothing is written.
-fn tell_short<W: Write>(to: &mut W, rows: &[u32], strings: &[u8], trits: &[u8], row: usize, n: usize) -> io::Result<()> {
+fn tell_short<W: Write>(
+    to: &mut W,
+    rows: &[u32],
+    strings: &[u8],
+    trits: &[u8],
+    row: usize,
+    n: usize,
+) -> io::Result<()> {
     let mut room = [7u8; 24000];
     let r = name_part(rows, strings, trits, row, &mut room, less(n));
-    tell_unless(to, is_refused(r, 24),
+    tell_unless(
+        to,
+        is_refused(r, 24),
         b" (in a room one byte short not refused 24 at 0)",
     )?;
     tell_unless(to, kept(&room, 0), b" (a room one byte short is changed)")
 }
 
-fn tell_name<W: Write>(to: &mut W, rows: &[u32], strings: &[u8], trits: &[u8], row: usize, room: &[u8], n: usize) -> io::Result<()> {
+fn tell_name<W: Write>(
+    to: &mut W,
+    rows: &[u32],
+    strings: &[u8],
+    trits: &[u8],
+    row: usize,
+    room: &[u8],
+    n: usize,
+) -> io::Result<()> {
     tell_bytes(to, room, n)?;
     tell_unless(to, kept(room, n), b" (past the name)")?;
     tell_exact(to, rows, strings, trits, row, room, n)?;
@@ -100,7 +127,13 @@ fn tell_name<W: Write>(to: &mut W, rows: &[u32], strings: &[u8], trits: &[u8], r
 }
 
 // The room is longer than every name: strings have 16,384 bytes in all, and each of 512 rows an index of 11 and a `/` at most.
-fn tell_tables<W: Write>(to: &mut W, row: usize, rows: &[u32], strings: &[u8], trits: &[u8]) -> io::Result<()> {
+fn tell_tables<W: Write>(
+    to: &mut W,
+    row: usize,
+    rows: &[u32],
+    strings: &[u8],
+    trits: &[u8],
+) -> io::Result<()> {
     let mut room = [7u8; 24000];
     let r = full_name(rows, strings, trits, row, &mut room);
     match r {
@@ -109,7 +142,14 @@ fn tell_tables<W: Write>(to: &mut W, row: usize, rows: &[u32], strings: &[u8], t
     }
 }
 
-fn tell_answer<W: Write>(to: &mut W, r: Read, row: usize, rows: &[u32], strings: &[u8], trits: &[u8]) -> io::Result<()> {
+fn tell_answer<W: Write>(
+    to: &mut W,
+    r: Read,
+    row: usize,
+    rows: &[u32],
+    strings: &[u8],
+    trits: &[u8],
+) -> io::Result<()> {
     match r {
         Read::Refused(g) => tell_refused(to, g),
         Read::Accepted => tell_tables(to, row, rows, strings, trits),

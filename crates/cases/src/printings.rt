@@ -77,45 +77,77 @@ fn canonical_room() -> [u8; 600000]
 }
 
 // A room just as long as the text takes it.
-fn tell_exact<W: Write>(to: &mut W, rows: &[u32], strings: &[u8], trits: &[u8], text: &[u8], n: usize) -> io::Result<()> {
+fn tell_exact<W: Write>(
+    to: &mut W,
+    rows: &[u32],
+    strings: &[u8],
+    trits: &[u8],
+    text: &[u8],
+    n: usize,
+) -> io::Result<()> {
     let mut room = canonical_room();
     let r = print_part(rows, strings, trits, &mut room, n);
     tell_unless(to, has_length(r, n), b" (not in a room just as long)")?;
-    tell_unless(to, same_bytes(&room, text, n),
+    tell_unless(
+        to,
+        same_bytes(&room, text, n),
         b" (another text in a room just as long)",
     )?;
     tell_unless(to, kept(&room, n), b" (past a room just as long)")
 }
 
 // A room one byte short is refused 24 at 0, and nothing is written.
-fn tell_short<W: Write>(to: &mut W, rows: &[u32], strings: &[u8], trits: &[u8], n: usize) -> io::Result<()> {
+fn tell_short<W: Write>(
+    to: &mut W,
+    rows: &[u32],
+    strings: &[u8],
+    trits: &[u8],
+    n: usize,
+) -> io::Result<()> {
     let mut room = canonical_room();
     let r = print_part(rows, strings, trits, &mut room, less(n));
-    tell_unless(to, is_refused(r, 24),
+    tell_unless(
+        to,
+        is_refused(r, 24),
         b" (in a room one byte short not refused 24 at 0)",
     )?;
     tell_unless(to, kept(&room, 0), b" (a room one byte short is changed)")
 }
 
-fn tell_same<W: Write>(to: &mut W, rows: &[u32],
+fn tell_same<W: Write>(
+    to: &mut W,
+    rows: &[u32],
     strings: &[u8],
     trits: &[u8],
     other_rows: &[u32],
     other_strings: &[u8],
-    other_trits: &[u8]) -> io::Result<()> {
-    tell_unless(to, same_words(rows, other_rows, 26307),
+    other_trits: &[u8],
+) -> io::Result<()> {
+    tell_unless(
+        to,
+        same_words(rows, other_rows, 26307),
         b" (other rows when read again)",
     )?;
-    tell_unless(to, same_bytes(strings, other_strings, 16384),
+    tell_unless(
+        to,
+        same_bytes(strings, other_strings, 16384),
         b" (other strings when read again)",
     )?;
-    tell_unless(to, same_bytes(trits, other_trits, 393728),
+    tell_unless(
+        to,
+        same_bytes(trits, other_trits, 393728),
         b" (other trits when read again)",
     )
 }
 
 // A canonical text that is no longer than a text may be gives the same tables.
-fn tell_again<W: Write>(to: &mut W, text: &[u8], rows: &[u32], strings: &[u8], trits: &[u8]) -> io::Result<()> {
+fn tell_again<W: Write>(
+    to: &mut W,
+    text: &[u8],
+    rows: &[u32],
+    strings: &[u8],
+    trits: &[u8],
+) -> io::Result<()> {
     if 65536 < text.len() {
         return Ok(());
     }
@@ -131,7 +163,9 @@ fn tell_again<W: Write>(to: &mut W, text: &[u8], rows: &[u32], strings: &[u8], t
         &mut work,
     );
     tell_unless(to, accepted(r), b" (refused when read again)")?;
-    tell_same(to, rows,
+    tell_same(
+        to,
+        rows,
         strings,
         trits,
         &other_rows,
@@ -140,7 +174,14 @@ fn tell_again<W: Write>(to: &mut W, text: &[u8], rows: &[u32], strings: &[u8], t
     )
 }
 
-fn tell_length<W: Write>(to: &mut W, rows: &[u32], strings: &[u8], trits: &[u8], room: &[u8], n: usize) -> io::Result<()> {
+fn tell_length<W: Write>(
+    to: &mut W,
+    rows: &[u32],
+    strings: &[u8],
+    trits: &[u8],
+    room: &[u8],
+    n: usize,
+) -> io::Result<()> {
     tell_canonical(to, room, n)?;
     tell_unless(to, kept(room, n), b" (past the text)")?;
     tell_exact(to, rows, strings, trits, room, n)?;
@@ -165,7 +206,13 @@ fn tell_tables<W: Write>(to: &mut W, rows: &[u32], strings: &[u8], trits: &[u8])
     }
 }
 
-fn tell_answer<W: Write>(to: &mut W, r: Read, rows: &[u32], strings: &[u8], trits: &[u8]) -> io::Result<()> {
+fn tell_answer<W: Write>(
+    to: &mut W,
+    r: Read,
+    rows: &[u32],
+    strings: &[u8],
+    trits: &[u8],
+) -> io::Result<()> {
     match r {
         Read::Refused(g) => tell_refused(to, g),
         Read::Accepted => tell_tables(to, rows, strings, trits),

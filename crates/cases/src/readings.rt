@@ -32,21 +32,43 @@ fn tell_tables<W: Write>(to: &mut W, rows: &[u32], strings: &[u8], trits: &[u8])
     tell_sum(to, b", trits ", sum_bytes(trits, 393728))
 }
 
-fn tell_refusal<W: Write>(to: &mut W, g: Refusal, rows: &[u32], strings: &[u8], trits: &[u8]) -> io::Result<()> {
+fn tell_refusal<W: Write>(
+    to: &mut W,
+    g: Refusal,
+    rows: &[u32],
+    strings: &[u8],
+    trits: &[u8],
+) -> io::Result<()> {
     tell_refused(to, g)?;
     tell_unless(to, all_words(rows, 26307, 0), b" (rows not cleared)")?;
-    tell_unless(to, all_bytes(strings, 0, 16384, 0), b" (strings not cleared)")?;
+    tell_unless(
+        to,
+        all_bytes(strings, 0, 16384, 0),
+        b" (strings not cleared)",
+    )?;
     tell_unless(to, all_bytes(trits, 0, 393728, 0), b" (trits not cleared)")
 }
 
-fn tell_answer<W: Write>(to: &mut W, r: Read, rows: &[u32], strings: &[u8], trits: &[u8]) -> io::Result<()> {
+fn tell_answer<W: Write>(
+    to: &mut W,
+    r: Read,
+    rows: &[u32],
+    strings: &[u8],
+    trits: &[u8],
+) -> io::Result<()> {
     match r {
         Read::Refused(g) => tell_refusal(to, g, rows, strings, trits),
         Read::Accepted => tell_tables(to, rows, strings, trits),
     }
 }
 
-fn tell_past<W: Write>(to: &mut W, rows: &[u32], strings: &[u8], trits: &[u8], work: &[u32]) -> io::Result<()> {
+fn tell_past<W: Write>(
+    to: &mut W,
+    rows: &[u32],
+    strings: &[u8],
+    trits: &[u8],
+    work: &[u32],
+) -> io::Result<()> {
     tell_unless(to, all_words(work, 132608, 0), b" (work space not cleared)")?;
     tell_unless(to, word_at(rows, 26307) == 7, b" (past the rows)")?;
     tell_unless(to, byte_at(strings, 16384) == 7, b" (past the strings)")?;

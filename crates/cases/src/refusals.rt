@@ -28,7 +28,13 @@ fn print_refuses(r: Printed, g: Refusal) -> bool {
     }
 }
 
-fn tell_print<W: Write>(to: &mut W, g: Refusal, rows: &[u32], strings: &[u8], trits: &[u8]) -> io::Result<()> {
+fn tell_print<W: Write>(
+    to: &mut W,
+    g: Refusal,
+    rows: &[u32],
+    strings: &[u8],
+    trits: &[u8],
+) -> io::Result<()> {
     let mut room = [7u8; 65536];
     let r = print_text(rows, strings, trits, &mut room);
     tell_unless(to, print_refuses(r, g), b" (printing answers otherwise)")?;
@@ -42,7 +48,13 @@ fn name_refuses(r: Named, g: Refusal) -> bool {
     }
 }
 
-fn tell_name<W: Write>(to: &mut W, g: Refusal, rows: &[u32], strings: &[u8], trits: &[u8]) -> io::Result<()> {
+fn tell_name<W: Write>(
+    to: &mut W,
+    g: Refusal,
+    rows: &[u32],
+    strings: &[u8],
+    trits: &[u8],
+) -> io::Result<()> {
     let mut room = [7u8; 300];
     let r = full_name(rows, strings, trits, 0, &mut room);
     tell_unless(to, name_refuses(r, g), b" (naming answers otherwise)")?;
@@ -56,7 +68,13 @@ fn lookup_refuses(r: Found, g: Refusal) -> bool {
     }
 }
 
-fn tell_lookup<W: Write>(to: &mut W, g: Refusal, rows: &[u32], strings: &[u8], trits: &[u8]) -> io::Result<()> {
+fn tell_lookup<W: Write>(
+    to: &mut W,
+    g: Refusal,
+    rows: &[u32],
+    strings: &[u8],
+    trits: &[u8],
+) -> io::Result<()> {
     let f = lookup_io(rows, strings, trits, b"a");
     tell_unless(to, lookup_refuses(f, g), b" (the lookup answers otherwise)")
 }
@@ -68,11 +86,19 @@ fn evaluation_refuses(r: Evaluated, g: Refusal) -> bool {
     }
 }
 
-fn tell_evaluation<W: Write>(to: &mut W, g: Refusal, rows: &[u32], strings: &[u8], trits: &[u8]) -> io::Result<()> {
+fn tell_evaluation<W: Write>(
+    to: &mut W,
+    g: Refusal,
+    rows: &[u32],
+    strings: &[u8],
+    trits: &[u8],
+) -> io::Result<()> {
     let mut room = [7u8; 300];
     let mut work = [7u32; 8193];
     let r = evaluate(rows, strings, trits, b"", &mut room, &mut work);
-    tell_unless(to, evaluation_refuses(r, g),
+    tell_unless(
+        to,
+        evaluation_refuses(r, g),
         b" (an evaluation answers otherwise)",
     )?;
     tell_unless(to, kept(&room, 0), b" (an evaluation changes the room)")
@@ -85,17 +111,31 @@ fn translation_refuses(r: Translated, g: Refusal) -> bool {
     }
 }
 
-fn tell_translation<W: Write>(to: &mut W, g: Refusal, rows: &[u32], strings: &[u8], trits: &[u8]) -> io::Result<()> {
+fn tell_translation<W: Write>(
+    to: &mut W,
+    g: Refusal,
+    rows: &[u32],
+    strings: &[u8],
+    trits: &[u8],
+) -> io::Result<()> {
     let mut room = [7u8; 300];
     let mut work = [7u32; 8193];
     let r = translate(rows, strings, trits, &mut room, &mut work);
-    tell_unless(to, translation_refuses(r, g),
+    tell_unless(
+        to,
+        translation_refuses(r, g),
         b" (a translation answers otherwise)",
     )?;
     tell_unless(to, kept(&room, 0), b" (a translation changes the room)")
 }
 
-pub(crate) fn tell_refusals<W: Write>(to: &mut W, g: Refusal, rows: &[u32], strings: &[u8], trits: &[u8]) -> io::Result<()> {
+pub(crate) fn tell_refusals<W: Write>(
+    to: &mut W,
+    g: Refusal,
+    rows: &[u32],
+    strings: &[u8],
+    trits: &[u8],
+) -> io::Result<()> {
     tell_print(to, g, rows, strings, trits)?;
     tell_name(to, g, rows, strings, trits)?;
     tell_lookup(to, g, rows, strings, trits)?;

@@ -79,16 +79,27 @@ fn run_part(list: &[u8], ins: &[u8], room: &mut [u8], n: usize, work: &mut [u8])
 }
 
 // A room just as long as the answer takes it, and the slots are the same.
-fn tell_exact<W: Write>(to: &mut W, list: &[u8], ins: &[u8], outs: &[u8], n: usize, slots: &[u8]) -> io::Result<()> {
+fn tell_exact<W: Write>(
+    to: &mut W,
+    list: &[u8],
+    ins: &[u8],
+    outs: &[u8],
+    n: usize,
+    slots: &[u8],
+) -> io::Result<()> {
     let mut room = [7u8; 8200];
     let mut work = [7u8; 8193];
     let r = run_part(list, ins, &mut room, n, &mut work);
     tell_unless(to, gives(r, n), b" (not in a room just as long)")?;
-    tell_unless(to, same_bytes(&room, outs, n),
+    tell_unless(
+        to,
+        same_bytes(&room, outs, n),
         b" (other bits in a room just as long)",
     )?;
     tell_unless(to, kept(&room, n), b" (past a room just as long)")?;
-    tell_unless(to, same_bytes(&work, slots, 8193),
+    tell_unless(
+        to,
+        same_bytes(&work, slots, 8193),
         b" (other slots beside a room just as long)",
     )
 }
@@ -98,11 +109,15 @@ fn tell_short<W: Write>(to: &mut W, list: &[u8], ins: &[u8], n: usize) -> io::Re
     let mut room = [7u8; 8200];
     let mut work = [7u8; 8193];
     let r = run_part(list, ins, &mut room, n, &mut work);
-    tell_unless(to, is_refused(r, 24),
+    tell_unless(
+        to,
+        is_refused(r, 24),
         b" (in a room one byte short not refused 24 at 0)",
     )?;
     tell_unless(to, kept(&room, 0), b" (a room one byte short is changed)")?;
-    tell_unless(to, zero_from(&work, 0, 8192),
+    tell_unless(
+        to,
+        zero_from(&work, 0, 8192),
         b" (work space beside a short room is not clear)",
     )
 }
@@ -112,22 +127,35 @@ fn tell_narrow<W: Write>(to: &mut W, list: &[u8], ins: &[u8]) -> io::Result<()> 
     let mut room = [7u8; 8200];
     let mut work = [7u8; 8191];
     let r = run(list, ins, &mut room, &mut work);
-    tell_unless(to, is_refused(r, 1),
+    tell_unless(
+        to,
+        is_refused(r, 1),
         b" (work space one byte short not refused 1 at 0)",
     )?;
-    tell_unless(to, kept(&room, 0),
+    tell_unless(
+        to,
+        kept(&room, 0),
         b" (a room beside short work space is changed)",
     )?;
     tell_unless(to, kept(&work, 0), b" (short work space is changed)")
 }
 
-fn tell_outputs<W: Write>(to: &mut W, list: &[u8], ins: &[u8], outs: &[u8], n: usize, work: &[u8]) -> io::Result<()> {
+fn tell_outputs<W: Write>(
+    to: &mut W,
+    list: &[u8],
+    ins: &[u8],
+    outs: &[u8],
+    n: usize,
+    work: &[u8],
+) -> io::Result<()> {
     let count = list.len() / 8;
     tell_all_bits(to, outs, n)?;
     to.write_all(b", slots ")?;
     tell_all_bits(to, work, count)?;
     tell_unless(to, kept(outs, n), b" (past the answer)")?;
-    tell_unless(to, zero_from(work, count, 8192),
+    tell_unless(
+        to,
+        zero_from(work, count, 8192),
         b" (work space past the slots is not clear)",
     )?;
     tell_exact(to, list, ins, outs, n, work)?;
@@ -139,7 +167,9 @@ fn tell_outputs<W: Write>(to: &mut W, list: &[u8], ins: &[u8], outs: &[u8], n: u
 
 fn tell_none<W: Write>(to: &mut W, g: Refusal, outs: &[u8], work: &[u8]) -> io::Result<()> {
     tell_unwritten(to, g, outs)?;
-    tell_unless(to, zero_from(work, 0, 8192),
+    tell_unless(
+        to,
+        zero_from(work, 0, 8192),
         b" (work space of a refusal is not clear)",
     )
 }

@@ -89,7 +89,13 @@ pub(crate) fn sum_words(words: &[u32], n: usize) -> u64 {
 }
 
 // Many of something, told by their number and a sum over their n bytes.
-pub(crate) fn tell_many<W: Write>(to: &mut W, count: usize, what: &[u8], bytes: &[u8], n: usize) -> io::Result<()> {
+pub(crate) fn tell_many<W: Write>(
+    to: &mut W,
+    count: usize,
+    what: &[u8],
+    bytes: &[u8],
+    n: usize,
+) -> io::Result<()> {
     write!(to, "{count}")?;
     to.write_all(what)?;
     let sum = sum_bytes(bytes, n);

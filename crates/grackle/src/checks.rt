@@ -6,7 +6,12 @@ use std::io;
 use std::io::Write;
 use std::rt::{Env, Files, Input};
 
-fn check_file<R: Env + Files + Input, O: Write, E: Write>(rt: &R, out: &mut O, err: &mut E, i: usize) -> io::Result<bool> {
+fn check_file<R: Env + Files + Input, O: Write, E: Write>(
+    rt: &R,
+    out: &mut O,
+    err: &mut E,
+    i: usize,
+) -> io::Result<bool> {
     let mut path = [0u8; 4096];
     let n = put_arg(rt, i, &mut path);
     answer_file(rt, out, err, Job::Check, &path[..n], b"")
@@ -32,7 +37,12 @@ fn tell_bad<E: Write>(err: &mut E, bad: usize) -> io::Result<()> {
 }
 
 // The files that the arguments from the second on name.
-pub(crate) fn check_files<R: Env + Files + Input, O: Write, E: Write>(rt: &R, out: &mut O, err: &mut E, count: usize) -> io::Result<()> {
+pub(crate) fn check_files<R: Env + Files + Input, O: Write, E: Write>(
+    rt: &R,
+    out: &mut O,
+    err: &mut E,
+    count: usize,
+) -> io::Result<()> {
     let mut bad: usize = 0;
     for i in 2..count {
         bad = counted(bad, check_file(rt, out, err, i)?);

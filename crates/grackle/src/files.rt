@@ -88,7 +88,14 @@ fn take_file<R: Files + Input>(rt: &R, path: &[u8], room: &mut [u8]) -> Taken
 }
 
 // A byte more than any text or list may have: what is too long is refused as such. Whether the file was read, taken and answered.
-pub(crate) fn answer_file<R: Files + Input, O: Write, E: Write>(rt: &R, out: &mut O, err: &mut E, job: Job, path: &[u8], word: &[u8]) -> io::Result<bool> {
+pub(crate) fn answer_file<R: Files + Input, O: Write, E: Write>(
+    rt: &R,
+    out: &mut O,
+    err: &mut E,
+    job: Job,
+    path: &[u8],
+    word: &[u8],
+) -> io::Result<bool> {
     let mut room = [0u8; 65537];
     let taken = take_file(rt, path, &mut room);
     let n = taken.n;

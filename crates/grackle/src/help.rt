@@ -19,7 +19,10 @@ fn usage<E: Write>(err: &mut E, line: &[u8]) -> io::Result<()> {
 }
 
 pub(crate) fn tell_unknown<E: Write>(err: &mut E) -> io::Result<()> {
-    usage(err, b"check|print|list|load|eval|run|names|pads|pad|help ..")
+    usage(
+        err,
+        b"check|print|list|load|eval|run|names|pads|pad|help ..",
+    )
 }
 
 pub(crate) fn tell_usage<E: Write>(err: &mut E, job: Job) -> io::Result<()> {

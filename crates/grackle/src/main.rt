@@ -22,7 +22,14 @@ use std::io::Write;
 use std::rt::{Env, Files, Input};
 
 // The file that an argument names, and what is asked of it.
-fn serve<R: Env + Files + Input, O: Write, E: Write>(rt: &R, out: &mut O, err: &mut E, job: Job, file: usize, word: &[u8]) -> io::Result<()> {
+fn serve<R: Env + Files + Input, O: Write, E: Write>(
+    rt: &R,
+    out: &mut O,
+    err: &mut E,
+    job: Job,
+    file: usize,
+    word: &[u8],
+) -> io::Result<()> {
     let mut path = [0u8; 4096];
     let n = put_arg(rt, file, &mut path);
     answer_file(rt, out, err, job, &path[..n], word)?;
@@ -30,7 +37,14 @@ fn serve<R: Env + Files + Input, O: Write, E: Write>(rt: &R, out: &mut O, err: &
 }
 
 // The bits of an argument, or a name: an argument longer than the room is longer than every assignment and every name.
-fn serve_with<R: Env + Files + Input, O: Write, E: Write>(rt: &R, out: &mut O, err: &mut E, job: Job, file: usize, word: usize) -> io::Result<()> {
+fn serve_with<R: Env + Files + Input, O: Write, E: Write>(
+    rt: &R,
+    out: &mut O,
+    err: &mut E,
+    job: Job,
+    file: usize,
+    word: usize,
+) -> io::Result<()> {
     let mut room = [0u8; 8193];
     match rt.arg(word, &mut room) {
         Ok(n) => serve(rt, out, err, job, file, &room[..n]),
@@ -40,7 +54,11 @@ fn serve_with<R: Env + Files + Input, O: Write, E: Write>(rt: &R, out: &mut O, e
 }
 
 // `eval` with `--bits`, before the file or behind the bits.
-fn serve_option<R: Env + Files + Input, O: Write, E: Write>(rt: &R, out: &mut O, err: &mut E) -> io::Result<()> {
+fn serve_option<R: Env + Files + Input, O: Write, E: Write>(
+    rt: &R,
+    out: &mut O,
+    err: &mut E,
+) -> io::Result<()> {
     if is_option(rt, 2) {
         return serve_with(rt, out, err, Job::EvalBits, 3, 4);
     }
@@ -50,7 +68,12 @@ fn serve_option<R: Env + Files + Input, O: Write, E: Write>(rt: &R, out: &mut O,
     tell_usage(err, Job::Eval)
 }
 
-fn serve_eval<R: Env + Files + Input, O: Write, E: Write>(rt: &R, out: &mut O, err: &mut E, count: usize) -> io::Result<()> {
+fn serve_eval<R: Env + Files + Input, O: Write, E: Write>(
+    rt: &R,
+    out: &mut O,
+    err: &mut E,
+    count: usize,
+) -> io::Result<()> {
     if count == 4 {
         return serve_with(rt, out, err, Job::Eval, 2, 3);
     }
@@ -60,28 +83,51 @@ fn serve_eval<R: Env + Files + Input, O: Write, E: Write>(rt: &R, out: &mut O, e
     tell_usage(err, Job::Eval)
 }
 
-fn serve_two<R: Env + Files + Input, O: Write, E: Write>(rt: &R, out: &mut O, err: &mut E, job: Job, count: usize) -> io::Result<()> {
+fn serve_two<R: Env + Files + Input, O: Write, E: Write>(
+    rt: &R,
+    out: &mut O,
+    err: &mut E,
+    job: Job,
+    count: usize,
+) -> io::Result<()> {
     if count == 4 {
         return serve_with(rt, out, err, job, 2, 3);
     }
     tell_usage(err, job)
 }
 
-fn serve_one<R: Env + Files + Input, O: Write, E: Write>(rt: &R, out: &mut O, err: &mut E, job: Job, count: usize) -> io::Result<()> {
+fn serve_one<R: Env + Files + Input, O: Write, E: Write>(
+    rt: &R,
+    out: &mut O,
+    err: &mut E,
+    job: Job,
+    count: usize,
+) -> io::Result<()> {
     if count == 3 {
         return serve(rt, out, err, job, 2, b"");
     }
     tell_usage(err, job)
 }
 
-fn serve_check<R: Env + Files + Input, O: Write, E: Write>(rt: &R, out: &mut O, err: &mut E, count: usize) -> io::Result<()> {
+fn serve_check<R: Env + Files + Input, O: Write, E: Write>(
+    rt: &R,
+    out: &mut O,
+    err: &mut E,
+    count: usize,
+) -> io::Result<()> {
     if 3 <= count {
         return check_files(rt, out, err, count);
     }
     tell_usage(err, Job::Check)
 }
 
-fn serve_job<R: Env + Files + Input, O: Write, E: Write>(rt: &R, out: &mut O, err: &mut E, job: Job, count: usize) -> io::Result<()> {
+fn serve_job<R: Env + Files + Input, O: Write, E: Write>(
+    rt: &R,
+    out: &mut O,
+    err: &mut E,
+    job: Job,
+    count: usize,
+) -> io::Result<()> {
     match job {
         Job::Check => serve_check(rt, out, err, count),
         Job::Eval => serve_eval(rt, out, err, count),

@@ -9,7 +9,9 @@ fn tell_form<W: Write>(to: &mut W, number: u8) -> io::Result<()> {
         1 => to.write_all(b"a table or work space is too small"),
         2 => to.write_all(b"the text is longer than 65,536 bytes"),
         3 => to.write_all(b"the text has a byte that is no text (not UTF-8, or CR without LF)"),
-        4 => to.write_all(b"the text is empty, or its last line has no line end (is the file cut off?)"),
+        4 => to.write_all(
+            b"the text is empty, or its last line has no line end (is the file cut off?)",
+        ),
         5 => to.write_all(b"a word or number is misspelt, or a space is missing before it"),
         6 => to.write_all(b"a number is too large"),
         7 => to.write_all(b"this word or sign is not allowed here, or the line ends too soon"),
@@ -21,11 +23,19 @@ fn tell_form<W: Write>(to: &mut W, number: u8) -> io::Result<()> {
 fn tell_rule<W: Write>(to: &mut W, number: u8) -> io::Result<()> {
     match number {
         9 => to.write_all(b"a number or name is declared twice"),
-        10 => to.write_all(b"it refers to metadata that is missing, comes later or is of the wrong kind"),
-        11 => to.write_all(b"a name is empty, a source range is wrong, or a set has fewer than two members"),
+        10 => to.write_all(
+            b"it refers to metadata that is missing, comes later or is of the wrong kind",
+        ),
+        11 => to.write_all(
+            b"a name is empty, a source range is wrong, or a set has fewer than two members",
+        ),
         12 => to.write_all(b"the widths do not fit together, or one is not 1 to 256"),
-        13 => to.write_all(b"there is no room for it: too many cells, bits or rows, or a name too long"),
-        _ => to.write_all(b"it uses a cell that is not declared, or bits that the cell does not have"),
+        13 => to.write_all(
+            b"there is no room for it: too many cells, bits or rows, or a name too long",
+        ),
+        _ => to.write_all(
+            b"it uses a cell that is not declared, or bits that the cell does not have",
+        ),
     }
 }
 
