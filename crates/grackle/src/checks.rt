@@ -4,7 +4,7 @@ use crate::words::put_arg;
 use answering::Job;
 use std::io;
 use std::io::Write;
-use std::rt::{Env, Files, Input};
+use std::rt::{Env, Files};
 
 fn check_file<R: Env + Files + Input, O: Write, E: Write>(
     rt: &R,

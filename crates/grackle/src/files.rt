@@ -4,7 +4,7 @@ ghost use Rattle.std.specs.Prelude.{◌<◌, ◌≤◌, length};
 use crate::words::same;
 use answering::{Job, answer, tell_unread};
 use std::io::{Read, Write};
-use std::rt::{Files, Input};
+use std::rt::Files;
 use std::{fs, io, str};
 
 // Whether the file was read to its end or until the room was full, and how many bytes came.

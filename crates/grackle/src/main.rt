@@ -19,7 +19,7 @@ use answering::Job;
 use std::env::FillError;
 use std::io;
 use std::io::Write;
-use std::rt::{Env, Files, Input};
+use std::rt::{Env, Files};
 
 // The file that an argument names, and what is asked of it.
 fn serve<R: Env + Files + Input, O: Write, E: Write>(
