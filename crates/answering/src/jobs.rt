@@ -1,5 +1,5 @@
 // What is asked of a file.
-#[derive(Drop)]
+#[derive(Clone, Copy)]
 pub enum Job {
     Check,
     Print,

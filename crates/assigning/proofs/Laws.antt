@@ -136,18 +136,18 @@ assigned_none rows n ins old =
 
 module _ {rows ins old values : List ℕ} {n i start at : ℕ} (a : Assigned rows n ins old i start at values) (w t : ℕ) (p : w ≡ get_or rows (i * 9 + 1) 0)
     (q : t ≡ pick (eqb (get_or rows (i * 9) 0) input_kind) (get_or rows (i * 9 + 1) 0) 0) (h : i < n) where
-  pub assign-taken : at + t ≤ rows_total input_in n rows
-  assign-taken = omega (arith, a.taken, total_more input_in rows n i h, row_input rows i)
+  pub assign_taken : at + t ≤ rows_total input_in n rows
+  assign_taken = omega (arith, a.taken, total_more input_in rows n i h, row_input rows i)
 
-  pub assign-bits : start + w ≤ rows_total width_in n rows
-  assign-bits = omega (arith, a.bits, total_more width_in rows n i h, row_width rows i)
+  pub assign_bits : start + w ≤ rows_total width_in n rows
+  assign_bits = omega (arith, a.bits, total_more width_in rows n i h, row_width rows i)
 
-  pub assign-room : start + t ≤ rows_total width_in n rows
-  assign-room = omega (arith, assign-bits, row_input rows i, row_width rows i, input_narrow (drop (i * 9) rows))
+  pub assign_room : start + t ≤ rows_total width_in n rows
+  assign_room = omega (arith, assign_bits, row_input rows i, row_width rows i, input_narrow (drop (i * 9) rows))
 
-  pub assigned-more : (values' : List ℕ) → values' ≡ sets values start (part at t ins) → Assigned rows n ins old (i + 1) (start + w) (at + t) values'
+  pub assigned_more : (values' : List ℕ) → values' ≡ sets values start (part at t ins) → Assigned rows n ins old (i + 1) (start + w) (at + t) values'
   unfolding assigned_in
-  assigned-more values' v =
+  assigned_more values' v =
       let e : n - i ≡ suc (n - (i + 1)) = omega arith in
       let x : w ≡ width_in (drop (i * 9) rows) = p ∙ sym (row_width rows i) in
       let y : t ≡ input_in (drop (i * 9) rows) = q ∙ sym (row_input rows i) in

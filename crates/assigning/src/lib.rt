@@ -1,5 +1,7 @@
 // Assigning: where the bits of each cell begin among all bits, the number of input bits, and the input bits written where their cells'
 // bits begin. The netlist stands below it, evaluating above.
+#![tactic(auto)]
+
 ghost use Rattle.std.specs.Prelude.{◌≡◌, List, ℕ, ◌+◌, ◌≤◌, eqb, length};
 ghost use Rattle.std.proofs.lemmas.List.Edits.{sets};
 ghost use Rattle.ground.specs.Choice.{pick};

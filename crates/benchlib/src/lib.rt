@@ -14,7 +14,7 @@ use translating::{Translated, translate};
 
 // How many output bits or records are given, or why none are.
 #[repr(C)]
-#[derive(Drop)]
+#[derive(Clone, Copy)]
 pub struct Gave {
     pub count: u64,
     pub number: u32,
@@ -51,8 +51,7 @@ fn tell_evaluation(r: Evaluated) -> Gave
 }
 
 // The evaluation of the netlist in three lent tables: refusal 1, 15, 20, 23 or 24.
-#[unsafe(no_mangle)]
-pub extern "C" fn grackle_evaluate(
+pub fn grackle_evaluate(
     rows: &[u32],
     strings: &[u8],
     trits: &[u8],
@@ -75,8 +74,7 @@ fn tell_translation(r: Translated) -> Gave
 }
 
 // The load list of the netlist in three lent tables: refusal 1, 15, 20, 21 or 24.
-#[unsafe(no_mangle)]
-pub extern "C" fn grackle_translate(
+pub fn grackle_translate(
     rows: &[u32],
     strings: &[u8],
     trits: &[u8],
@@ -98,8 +96,7 @@ fn tell_run(r: Ran) -> Gave
 }
 
 // The run of a load list: refusal 1, 22, 23 or 24.
-#[unsafe(no_mangle)]
-pub extern "C" fn grackle_run(list: &[u8], ins: &[u8], outs: &mut [u8], work: &mut [u8]) -> Gave
+pub fn grackle_run(list: &[u8], ins: &[u8], outs: &mut [u8], work: &mut [u8]) -> Gave
     ensures { after result outs.new work.new ≡ after_run (run_of list.now ins.now outs.old work.old) }
 {
     tell_run(run(list, ins, outs, work))

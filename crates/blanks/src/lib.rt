@@ -1,5 +1,7 @@
 // Zeros behind what lies in a region or pool. Most of what tables hold is zero, so many are looked at in one step. It promises whether there
 // are only zeros from any place on. Pools stands below it, the check of whole tables above.
+#![tactic(auto)]
+
 ghost use Rattle.std.specs.Prelude.{◌≡◌, ◌+◌, ◌≤◌, length, drop};
 ghost use Rattle.ground.specs.Regions.{blank};
 

@@ -1,18 +1,20 @@
 // Brackets: what operands, sets and their parts are, and the words of a declaration, as definitions, values and laws. The code that takes
 // tokens as parts stands in tokenparts, that of words in keywords, and what stands between brackets is measured in enclosed and sets and
 // walked over in walks and tours, all above it; the tokens stand below.
+#![tactic(auto)]
+
 use ground::{Place, Refusal};
 use lexis::{Reader, Token};
 
 // A string or a constant in the text: the place of its first byte, and how many bytes or bits it means.
-#[derive(Drop)]
+#[derive(Clone, Copy)]
 pub struct Str {
     pub from: usize,
     pub size: usize,
 }
 
 // A reference `!m`, where one is written.
-#[derive(Drop)]
+#[derive(Clone, Copy)]
 pub struct Ref {
     pub given: bool,
     pub index: u32,
@@ -20,7 +22,7 @@ pub struct Ref {
 }
 
 // Bits of a cell: offset to offset + width - 1 of the cell that the author numbered so.
-#[derive(Drop)]
+#[derive(Clone, Copy)]
 pub struct Piece {
     pub cell: u32,
     pub offset: u32,
@@ -28,21 +30,21 @@ pub struct Piece {
 }
 
 // What an operand part repeats: a constant or a cell piece.
-#[derive(Drop)]
+#[derive(Clone, Copy)]
 pub enum Base {
     Constant(Str),
     Cell(Piece),
 }
 
 // An operand part: a constant, a cell piece, or a repetition that says which of the two it repeats, and how often.
-#[derive(Drop)]
+#[derive(Clone, Copy)]
 pub enum Part {
     One(Base),
     Repeated(Base, u32),
 }
 
 // An operand, where the keyword has one: the place at which it is read, and its exact width.
-#[derive(Drop)]
+#[derive(Clone, Copy)]
 pub struct Operand {
     pub given: bool,
     pub at: usize,
@@ -50,27 +52,27 @@ pub struct Operand {
 }
 
 // The place at which the members of a set are read, and their number.
-#[derive(Drop)]
+#[derive(Clone, Copy)]
 pub struct Members {
     pub at: usize,
     pub count: u64,
 }
 
 // What is read between brackets, measured: the width of a concatenation, or the members of a set.
-#[derive(Drop)]
+#[derive(Clone, Copy)]
 pub enum Measured {
     Closed(u64, Reader),
     Refused(Refusal),
 }
 
-#[derive(Drop)]
+#[derive(Clone, Copy)]
 pub enum Taken {
     Took(Operand, Reader),
     Refused(Refusal),
 }
 
 // What stands next between the brackets of an operand: a part with its place, another token, or a refusal.
-#[derive(Drop)]
+#[derive(Clone, Copy)]
 pub enum Parted {
     Took(Part, Place, Reader),
     Other(Token, Reader),
@@ -78,7 +80,7 @@ pub enum Parted {
 }
 
 // What stands next between the brackets of a set: a member, another token, or a refusal.
-#[derive(Drop)]
+#[derive(Clone, Copy)]
 pub enum Membered {
     Took(Ref, Reader),
     Other(Token, Reader),
@@ -86,7 +88,7 @@ pub enum Membered {
 }
 
 // Where a walk over the parts of an operand stands: past them, before the one part, or between brackets, where at most `left` parts come.
-#[derive(Drop)]
+#[derive(Clone, Copy)]
 pub enum Walk {
     Past,
     Alone(Part, Place),
@@ -94,21 +96,21 @@ pub enum Walk {
 }
 
 // A step of that walk: a part with its place and the moved walk, or none.
-#[derive(Drop)]
+#[derive(Clone, Copy)]
 pub enum Walked {
     Part(Part, Place, Walk),
     Done,
 }
 
 // Where a walk over the members of a set stands, at most `left` of them before it.
-#[derive(Drop)]
+#[derive(Clone, Copy)]
 pub struct Tour {
     pub next: Reader,
     pub left: usize,
 }
 
 // A step of that walk.
-#[derive(Drop)]
+#[derive(Clone, Copy)]
 pub enum Toured {
     Member(Ref, Tour),
     Done,

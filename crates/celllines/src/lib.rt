@@ -1,5 +1,7 @@
 // The lines of cells: each cell under its number, which is the sum over earlier cells of the greater of 1 and its width. The numbers and
 // widths of all cells are worked out once and lent down. Operands and writing stand below it, printing above.
+#![tactic(auto)]
+
 ghost use Rattle.std.specs.Prelude.{◌≡◌, Bool, true, List, [], ◌++◌, ℕ, ◌-◌, ◌<◌, ◌≤◌, leb, length, take, drop};
 ghost use Rattle.ground.specs.Lists.{every};
 ghost use Rattle.ground.specs.Regions.{part};

@@ -1,6 +1,7 @@
 // The runs of a cell's operands: each operand of a declaration laid as longest runs behind those in use. It promises the runs that saying
 // gives, or that they need more than 4,096 rows; and it tells whether a part has no bits, which leaves no run. Joining stands below it,
 // the declarations of cells above.
+#![tactic(auto)]
 mod operands;
 mod parts;
 

@@ -9,21 +9,21 @@ use kinds::{fits, has_name, operands_of};
 use pools::{blank_words, both, lies_at, word_of};
 
 // What the three operands of a cell are: their widths, and where their trits end.
-#[derive(Drop)]
+#[derive(Clone, Copy)]
 pub enum Widths {
     Wrong,
     Of(usize, usize, usize, usize),
 }
 
 // What a cell row is: how many bits it puts out, and where its trits end.
-#[derive(Drop)]
+#[derive(Clone, Copy)]
 pub enum Judged {
     Wrong,
     Good(usize, usize),
 }
 
 // What a walk over cell rows ends with: where the strings, the runs and the trits end, and the sums of widths and of output bits.
-#[derive(Drop)]
+#[derive(Clone, Copy)]
 pub enum Cells {
     Wrong,
     Ends(usize, usize, usize, usize, usize),

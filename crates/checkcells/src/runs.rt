@@ -9,7 +9,7 @@ ghost use Rattle.checkcells.specs.Runs.{widths_in, joins_next, run_good, head_go
 use pools::{all_trits, lies_at, word_of};
 
 // What a walk over the runs of an operand ends with: its width, and where its trits end.
-#[derive(Drop)]
+#[derive(Clone, Copy)]
 pub enum Operand {
     Wrong,
     Wide(usize, usize),

@@ -213,26 +213,26 @@ module _ (T : Tables) (l : Lent T) (s t x : ℕ) (a : MetasAt T.metas T.members 
   L₃ : cell.Laid T (widths_in T.cell_count T.cells) T.meta_count 0 t 0 0 0 0 T.cell_count x c.r c.b c.d c.o
   L₃ = cell.walked T (cell_pools T l) (widths_in T.cell_count T.cells) T.meta_count T.cell_count 0 t 0 0 0 0 x c.r c.b c.d c.o L₂.s_room (omega arith) (omega (arith, c.most, l.long.cells)) c.walk
 
-  s-is : s ≡ length (meta_strings ms)
-  s-is = place_is (meta_strings ms) T.strings 0 s L₁.strings (omega arith) (omega (arith, L₁.s_room, l.long.strings)) ∙ zero-add _
+  s_is : s ≡ length (meta_strings ms)
+  s_is = place_is (meta_strings ms) T.strings 0 s L₁.strings (omega arith) (omega (arith, L₁.s_room, l.long.strings)) ∙ zero-add _
 
-  t-is : t ≡ length (meta_strings ms) + length (joined (λ (i : Io). i.name) is)
-  t-is = place_is (joined (λ (i : Io). i.name) is) T.strings s t L₂.strings (omega (arith, L₁.s_room, l.long.strings)) (omega (arith, L₂.s_room, l.long.strings)) ∙ rw s-is
+  t_is : t ≡ length (meta_strings ms) + length (joined (λ (i : Io). i.name) is)
+  t_is = place_is (joined (λ (i : Io). i.name) is) T.strings s t L₂.strings (omega (arith, L₁.s_room, l.long.strings)) (omega (arith, L₂.s_room, l.long.strings)) ∙ rw s_is
 
-  strings-are : T.strings ≡ names ++ drop x T.strings
-  strings-are = L₁.strings ∙ ap (λ (u : List ℕ). meta_strings ms ++ u) (L₂.strings ∙ ap (λ (u : List ℕ). joined (λ (i : Io). i.name) is ++ u) L₃.strings) ∙ simp append_assoc
+  strings_are : T.strings ≡ names ++ drop x T.strings
+  strings_are = L₁.strings ∙ ap (λ (u : List ℕ). meta_strings ms ++ u) (L₂.strings ∙ ap (λ (u : List ℕ). joined (λ (i : Io). i.name) is ++ u) L₃.strings) ∙ simp append_assoc
 
-  short-of : {A : Type 0} (xs p r : List A) → p ≡ xs ++ r → length xs ≤ length p
-  short-of xs p r e = let d = ap length e in let k = length-append xs r in omega (arith, d, k)
+  short_of : {A : Type 0} (xs p r : List A) → p ≡ xs ++ r → length xs ≤ length p
+  short_of xs p r e = let d = ap length e in let k = length-append xs r in omega (arith, d, k)
 
-  is-laid : laid (view T) T ≡ true
+  is_laid : laid (view T) T ≡ true
   unfolding laid view
-  is-laid =
-      let f₂ : fits (io_rows (length (meta_strings ms)) is) T.ios ≡ true = rw s-is at L₂.rows in
-      let f₃ : fits (cell_rows (length (meta_strings ms) + length (joined (λ (i : Io). i.name) is)) 0 cs) T.cells ≡ true = rw t-is at L₃.rows in
+  is_laid =
+      let f₂ : fits (io_rows (length (meta_strings ms)) is) T.ios ≡ true = rw s_is at L₂.rows in
+      let f₃ : fits (cell_rows (length (meta_strings ms) + length (joined (λ (i : Io). i.name) is)) 0 cs) T.cells ≡ true = rw t_is at L₃.rows in
       facts _ _ L₁.rows (facts _ _ (fits_blank (members_of ms) T.members (drop a.m T.members) L₁.members a.m_blank) (facts _ _ f₂ (facts _ _ f₃
       (facts _ _ (fits_blank (run_rows 0 (runs_of cs)) T.runs (drop (c.r * 3) T.runs) L₃.runs c.r_blank)
-      (facts _ _ (fits_blank names T.strings (drop x T.strings) strings-are z)
+      (facts _ _ (fits_blank names T.strings (drop x T.strings) strings_are z)
       (facts _ _ (fits_blank (attr_bits_of ms) T.attr_bits (drop a.b T.attr_bits) L₁.bits a.b_blank)
       (facts _ _ (fits_blank (run_bits_of (runs_of cs)) T.run_bits (drop c.b T.run_bits) L₃.bits c.b_blank) none)))))))
 
@@ -245,8 +245,8 @@ module _ (T : Tables) (l : Lent T) (s t x : ℕ) (a : MetasAt T.metas T.members 
       let d : c.d ≡ 0 + total (λ (c : Cell). c.width) cs = L₃.wide in
       let o : c.o ≡ 0 + total output_bits cs = L₃.outs in
       let r : c.r ≡ 0 + length (runs_of cs) = L₃.many in
-      let m = short-of (members_of ms) T.members (drop a.m T.members) L₁.members in
-      let k = short-of names T.strings (drop x T.strings) strings-are in
+      let m = short_of (members_of ms) T.members (drop a.m T.members) L₁.members in
+      let k = short_of names T.strings (drop x T.strings) strings_are in
       facts _ _ (le-leb (length cs) 512 (omega (arith, n₁, c.most)))
       (facts _ _ (le-leb (total (λ (c : Cell). c.width) cs) 4096 (omega (arith, d, c.d_most)))
       (facts _ _ (le-leb (total output_bits cs) 4096 (omega (arith, o, c.o_most)))
@@ -270,7 +270,7 @@ module _ (T : Tables) (l : Lent T) (s t x : ℕ) (a : MetasAt T.metas T.members 
 
   is_good : good T ≡ true
   unfolding good
-  is_good = true_and _ _ is-laid is_valid
+  is_good = true_and _ _ is_laid is_valid
 
 pub parts_good_lem : (T : Tables) → Lent T → parts_good T ≡ true → good T ≡ true
 unfolding parts_good
@@ -556,12 +556,12 @@ module _ (rows strings bits text : List ℕ) (h : (26307 ≤ length rows) × (16
 -- THE LOOKUP in tables that the check calls good
 module _ (rows strings bits : List ℕ) (h : check_of rows strings bits ≡ checked.Good) (b : (i : ℕ) → get_or strings i 0 < 256) (w : (i : ℕ) → get_or rows i 0 < 4294967296)
     (ios text : List ℕ) (n : ℕ) (e : ios ≡ part 9219 192 rows) (f : text ≡ part 0 16384 strings) (q : n ≡ get_or rows 1 0) where
-  pub found-named : IosNamed text n ios
+  pub found_named : IosNamed text n ios
   unfolding tables_in part
-  found-named =
+  found_named =
       let k = checked_good rows strings bits h in
       rw (e, f, q) (good_named (tables_in rows strings bits) (lent_in rows strings bits k.0 (every_below 256 strings b) (every_below 4294967296 rows w)) k.1)
 
-  pub found-is : (name : List ℕ) → io_from (ios_in (strings_alone text) n ios) 0 name ≡ lookup_of rows strings bits name
+  pub found_is : (name : List ℕ) → io_from (ios_in (strings_alone text) n ios) 0 name ≡ lookup_of rows strings bits name
   unfolding lookup_of view tables_in part
-  found-is name = rw (h, e, f, q) (ap (λ (l : List Io). io_from l 0 name) (ios_alone (strings_alone (take 16384 strings)) (tables_in rows strings bits) refl (get_or rows 1 0) (take 192 (drop 9219 rows))))
+  found_is name = rw (h, e, f, q) (ap (λ (l : List Io). io_from l 0 name) (ios_alone (strings_alone (take 16384 strings)) (tables_in rows strings bits) refl (get_or rows 1 0) (take 192 (drop 9219 rows))))

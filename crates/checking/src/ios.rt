@@ -6,7 +6,7 @@ use kinds::wide;
 use pools::{blank_words, both, lies_at, word_of};
 
 // Where the strings end behind rows that are good.
-#[derive(Drop)]
+#[derive(Clone, Copy)]
 pub enum Upto {
     Wrong,
     At(usize),

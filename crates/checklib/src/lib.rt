@@ -11,7 +11,7 @@ use textlib::{Told, accepted, told_by};
 
 // The I/O row of an asked name and its width, or why there is none.
 #[repr(C)]
-#[derive(Drop)]
+#[derive(Clone, Copy)]
 pub struct Pad {
     pub row: u64,
     pub width: u32,
@@ -29,8 +29,7 @@ fn tell_check(r: Checked) -> Told
 }
 
 // The check of three lent tables: refusal 1 or 15.
-#[unsafe(no_mangle)]
-pub extern "C" fn grackle_check(rows: &[u32], strings: &[u8], trits: &[u8]) -> Told
+pub fn grackle_check(rows: &[u32], strings: &[u8], trits: &[u8]) -> Told
     ensures { result ≡ told_check (check_of rows.now strings.now trits.now) }
 {
     tell_check(check_tables(rows, strings, trits))
@@ -68,8 +67,7 @@ fn tell_pad(r: Found) -> Pad
 }
 
 // The first I/O row of three lent tables that has the name: refusal 1, 15 or 18.
-#[unsafe(no_mangle)]
-pub extern "C" fn grackle_pad(rows: &[u32], strings: &[u8], trits: &[u8], name: &[u8]) -> Pad
+pub fn grackle_pad(rows: &[u32], strings: &[u8], trits: &[u8], name: &[u8]) -> Pad
     ensures { result ≡ told_pad (lookup_of rows.now strings.now trits.now name.now) }
 {
     tell_pad(lookup_io(rows, strings, trits, name))

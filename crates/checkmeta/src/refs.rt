@@ -6,7 +6,7 @@ ghost use Rattle.netlist.specs.Rules.{refers, is_member, is_source};
 ghost use Rattle.checkmeta.specs.Fields.{kinds_in, inside_sound, source_sound, allowed};
 
 // What a reference may name: metadata of any kind but a set, a scope, or a source.
-#[derive(Drop)]
+#[derive(Clone, Copy)]
 pub enum Asks {
     Member,
     Scope,

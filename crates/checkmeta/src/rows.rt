@@ -10,7 +10,7 @@ use crate::refs::{all_members, inside_sound, source_sound};
 use pools::{all_trits, blank_words, both, lies_at, word_of};
 
 // What a walk over metadata rows ends with: where the strings, the members and the trits end.
-#[derive(Drop)]
+#[derive(Clone, Copy)]
 pub enum Metas {
     Wrong,
     Ends(usize, usize, usize),

@@ -1,5 +1,7 @@
 // Lent words and bytes, cleared. It promises that a slice is zero afterwards, at every place and nowhere else. Reading and running stand
 // above it.
+#![tactic(auto)]
+
 ghost use Rattle.std.specs.Prelude.{◌≡◌, length};
 ghost use Rattle.ground.specs.Regions.{zeros};
 

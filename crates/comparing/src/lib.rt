@@ -1,5 +1,7 @@
 // Bytes compared: whether two lent slices hold the same bytes. It promises what the ground's definition gives. The ground stands below it;
 // keywords, names and pads are told apart by it above.
+#![tactic(auto)]
+
 ghost use Rattle.std.specs.Prelude.{◌≡◌};
 ghost use Rattle.ground.specs.Text.{same};
 

@@ -1,5 +1,7 @@
 // Constants: the trits that the characters of a constant mean, copied into lent trits. It promises those that the definitions of signs
 // give. Laying and the reading of attributes stand above it.
+#![tactic(auto)]
+
 ghost use Rattle.std.specs.Prelude.{◌≡◌, map, ◌+◌, ◌≤◌, length};
 ghost use Rattle.std.proofs.lemmas.List.Edits.{sets};
 ghost use Rattle.ground.specs.Regions.{part};

@@ -1,5 +1,7 @@
 // Decimals: numbers of the canonical text, put into lent room digit by digit, with their sign and behind `#`. It promises the digits that the
 // definitions of writing give. The lines of the text stand above it.
+#![tactic(auto)]
+
 ghost use Rattle.std.specs.Prelude.{◌≡◌, List, ◌∷◌, ◌++◌, ℕ, suc, ◌+◌, ◌/◌, ◌%◌, ◌^◌, ◌<◌};
 ghost use Rattle.writing.specs.Decimal.{digits, places, signed, SplitAt};
 ghost use Rattle.writing.specs.Words.{number, hash};
@@ -8,7 +10,7 @@ ghost use Rattle.writing.specs.Stands.{Wrote};
 use writing::room::put;
 
 // A digit, and what is left.
-#[derive(Drop)]
+#[derive(Clone, Copy)]
 pub struct Split {
     pub digit: u32,
     pub rest: u32,

@@ -191,11 +191,11 @@ pub pad_noted : {text : List ℕ} {d : Declared} {n : Tally} {rows bits work : L
     → ((bits work : List ℕ) (so : Sofar) (index : ℕ) → Noted text so n rows bits work → After text so (io_declared d.place index name width) v rows' bits work)
     → NotesOne text d n rows bits work v rows' bits work
 pad_noted {text} {d} {n} {rows} {bits} {work} {v} {rows'} name width e o =
-    let same : d ≡ io_declared d.place d.index name width = ap (λ (x : Decl). declaredOf d.place d.index x) e in
+    let same : d ≡ io_declared d.place d.index name width = ap (λ (x : Decl). declared_of d.place d.index x) e in
     record { after = λ so h. subst (λ (x : Declared). After text so x v rows' bits work) (sym same) (o bits work so d.index h) }
   where
-    declaredOf : Place → ℕ → Decl → Declared
-    declaredOf p i x = record { place = p; index = i; decl = x }
+    declared_of : Place → ℕ → Decl → Declared
+    declared_of p i x = record { place = p; index = i; decl = x }
 
 -- ONE DECLARATION
 module _ {text : List ℕ} {d : Declared} {n : Tally} {rows bits work : List ℕ} {v : Noting} {rows' bits' work' : List ℕ} (reader : Reader) (o : NotesOne text d n rows bits work v rows' bits' work') where

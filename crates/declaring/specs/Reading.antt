@@ -21,7 +21,7 @@ pub data Declarations : Type 0 where
   all : Sofar → Declarations
   stopped : Refusal → Declarations
 
--- each declaration takes a byte at least (language/proofs/Progress, `took-past`), so the first line is never met
+-- each declaration takes a byte at least (language/proofs/Progress, `took_past`), so the first line is never met
 unfoldable pub declarations_from : ℕ → List ℕ → ℕ → Sofar → Declarations
 declarations_from zero text k so = all so
 declarations_from (suc f) text k so = elim (form_at text k) [

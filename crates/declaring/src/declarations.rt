@@ -16,7 +16,7 @@ use noting::{Noting, Tally};
 use signs::classes::classes;
 
 // Where the next declaration leaves the reader: one more is noted, none is left, or a refusal.
-#[derive(Drop)]
+#[derive(Clone, Copy)]
 pub enum Next {
     Went(Tally, Reader),
     Ended,
@@ -24,7 +24,7 @@ pub enum Next {
 }
 
 // All declarations are noted, or why one is refused.
-#[derive(Drop)]
+#[derive(Clone, Copy)]
 pub enum Told {
     All(Tally),
     Stopped(Refusal),

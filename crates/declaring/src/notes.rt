@@ -14,7 +14,7 @@ use noting::{Noting, Tally};
 use wiring::note_cell;
 
 // The three sorts of declarations.
-#[derive(Drop)]
+#[derive(Clone, Copy)]
 pub enum Sort {
     Cell(Wiring),
     Pad(Str, u32),

@@ -1,5 +1,7 @@
 // The bytes that a string means, one a step or into a lent room. It promises each byte, and every byte of the room. Strings by their size
 // stand below it; names and the last step of reading above.
+#![tactic(auto)]
+
 ghost use Rattle.std.specs.Prelude.{◌≡◌, true, ◌+◌, ◌<◌, length, set};
 ghost use Rattle.std.proofs.lemmas.List.Edits.{sets};
 ghost use Rattle.signs.specs.Bytes.{table, is_hex, hex_of};

@@ -18,7 +18,7 @@ use pools::word_of;
 use regions::{cells_of, run_trits_of, runs_of};
 
 // The number of output bits given, or a refusal.
-#[derive(Drop)]
+#[derive(Clone, Copy)]
 pub enum Evaluated {
     Outputs(usize),
     Refused(Refusal),

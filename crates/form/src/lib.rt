@@ -1,6 +1,7 @@
 // Form: from tokens to the form of one declaration. It promises that each declaration taken, and each refusal 5 to 8 with its
 // place (2 for a text that is too long), is the one that the definitions of specs/ give. The rules 9 to 14 stand above it, the
 // operands and sets below.
+#![tactic(auto)]
 pub mod forms;
 
 use brackets::{Members, Operand, Ref, Str};
@@ -8,27 +9,27 @@ use ground::{Place, Refusal};
 use lexis::Reader;
 
 // A line and a column of a source file, each in 32 bits, a negative one as its two's complement.
-#[derive(Drop)]
+#[derive(Clone, Copy)]
 pub struct Point {
     pub line: u32,
     pub column: u32,
 }
 
-#[derive(Drop)]
+#[derive(Clone, Copy)]
 pub struct Range {
     pub first: Point,
     pub last: Point,
 }
 
 // A scope's own name: a string or a number.
-#[derive(Drop)]
+#[derive(Clone, Copy)]
 pub enum Label {
     Named(Str),
     Indexed(u32),
 }
 
 // What an attribute holds.
-#[derive(Drop)]
+#[derive(Clone, Copy)]
 pub enum Payload {
     Bits(Str),
     Integer(u32),
@@ -36,7 +37,7 @@ pub enum Payload {
 }
 
 // A cell: its keyword's number, its width, its name or an empty one, its operands, its metadata.
-#[derive(Drop)]
+#[derive(Clone, Copy)]
 pub struct Wiring {
     pub kind: u8,
     pub width: u32,
@@ -47,7 +48,7 @@ pub struct Wiring {
     pub meta: Ref,
 }
 
-#[derive(Drop)]
+#[derive(Clone, Copy)]
 pub enum Decl {
     Set(Members),
     Source(Str, Range),
@@ -59,7 +60,7 @@ pub enum Decl {
 }
 
 // A declaration: the place of its first token, its index where it has one, and the rest.
-#[derive(Drop)]
+#[derive(Clone, Copy)]
 pub struct Declared {
     pub place: Place,
     pub index: u32,
@@ -67,20 +68,20 @@ pub struct Declared {
 }
 
 // The next declaration with the moved reader, the end of the text, or a refusal with its place.
-#[derive(Drop)]
+#[derive(Clone, Copy)]
 pub enum Form {
     Took(Declared, Reader),
     End,
     Refused(Refusal),
 }
 
-#[derive(Drop)]
+#[derive(Clone, Copy)]
 pub enum Linked {
     Took(Ref, Reader),
     Refused(Refusal),
 }
 
-#[derive(Drop)]
+#[derive(Clone, Copy)]
 pub enum Pointed {
     Took(Point, Reader),
     Refused(Refusal),

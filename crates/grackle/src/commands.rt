@@ -3,7 +3,7 @@ use crate::words::{put_arg, same};
 use answering::Job;
 use std::rt::Env;
 
-#[derive(Drop)]
+#[derive(Clone, Copy)]
 pub enum Command {
     Help,
     Unknown,

@@ -8,7 +8,7 @@ use std::rt::Files;
 use std::{fs, io, str};
 
 // Whether the file was read to its end or until the room was full, and how many bytes came.
-#[derive(Drop)]
+#[derive(Clone, Copy)]
 struct Taken {
     whole: bool,
     n: usize,

@@ -153,7 +153,7 @@ module _ (reads : ℕ → List ℕ) (n : ℕ) where
     where
       go : Dec (i ≡ r) → Dec (j ≡ r) → (i ≡ r) ⊎ (mem i L ≡ true) → (mem i L ≡ true → mem j (reads i) ≡ true → place P r j ≡ false → Before L j i) → Before (r ∷ L) j i
       go (yes q) d' c ih = never_both (ready_reads reads P r e j (subst (λ (k : ℕ). mem j (reads k) ≡ true) q d)) p
-      go (no q) (yes t) c ih = record { among = rw t (mem_here r L); earlier = rw (pos_here r L j t, pos_there r L i q) (omega arith) }
+      go (no q) (yes t) c ih = record { among = subst (λ (k : ℕ). mem k (r ∷ L) ≡ true) (sym t) (mem_here r L); earlier = rw (pos_here r L j t, pos_there r L i q) (omega arith) }
       go (no q) (no t) (inl c) ih = absurd (q c)
       go (no q) (no t) (inr c) ih =
           let o = ih c d (place_other P r j t ∙ p) in
@@ -169,7 +169,7 @@ module _ (reads : ℕ → List ℕ) (n : ℕ) where
     reads_before = λ j d. or_left (P j) false (ready_reads reads P r e j d);
   }
   placing_turn {P} (a ∷ A) r B (step b e run) =
-      let t = placing_turn A r B run in
+      let t = placing_turn {P = place P a} A r B run in
       let u = or_false (eqb r a) (P r) t.unmarked in
       record {
         below = t.below;

@@ -2,3 +2,4 @@
 // It promises that the order leaves a row out exactly where there is a ring, and that what a row reads stands before
 // it; nothing runs here.
 // It stands on `ground`; placing, evaluation and translation stand above it.
+#![tactic(auto)]

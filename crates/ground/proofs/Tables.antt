@@ -28,6 +28,6 @@ at f xs d t k h = subst (λ (m : ℕ). T (f m (get_or xs k d))) (zero-add k) (fr
 abbrev pub agrees : (ℕ → ℕ) → List ℕ → Bool
 agrees f xs = every (λ k x. eqb x (f k)) 0 xs
 
--- the rule of the table at a place: `table-rule f table tt k h`
+-- the rule of the table at a place: `table_rule f table tt k h`
 pub table_rule : (f : ℕ → ℕ) (xs : List ℕ) → T (agrees f xs) → (k : ℕ) → k < length xs → get_or xs k 0 ≡ f k
 table_rule f xs t k h = eqb→eq (get_or xs k 0) (f k) (at (λ k x. eqb x (f k)) xs 0 t k h)

@@ -1,5 +1,7 @@
 // The words, marks and keywords of a declaration: letters are compared where they stand, with no copy. It promises what the definitions of
 // brackets give for any text and token. Brackets stands below it; operands, sets and declarations above.
+#![tactic(auto)]
+
 ghost use Rattle.std.specs.Prelude.{◌≡◌, take, drop};
 ghost use Rattle.kinds.specs.Kinds.{keywords};
 ghost use Rattle.brackets.specs.Words.{is_sort, is_mark, is_spelled, numbered, kind_of};

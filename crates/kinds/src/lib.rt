@@ -1,5 +1,7 @@
 // The kinds of cells: document 01's table of keywords, in one place. A kind's number, word, operands, width rule and number of
 // records stand here; its value and its records stand in `cells`. It stands on the ground.
+#![tactic(auto)]
+
 ghost use Rattle.std.specs.Prelude.{◌≡◌, true, ◌&&◌, ◌+◌, eqb};
 ghost use Rattle.kinds.specs.Kinds.{kind_at, wide, output, alike, all_alike, compared, mux, adc};
 

@@ -27,11 +27,11 @@ operand_trits text o = let t = cut_trits (bits_of text (parts_at text o)) in let
 -- AN OPERAND IS LAID
 module _ (text : List ℕ) (o : Operand) {runs trits runs' trits' : List ℕ} {so so' : Laid}
     (e : (rs : List Run) → Holds rs runs trits so → Holds (rs ++ operand_runs text o) runs' trits' so') (h : Held runs trits so) where
-  pub laid-held : Held runs' trits' so'
-  laid-held = record { rs = h.rs ++ operand_runs text o; holds = e h.rs h.holds }
+  pub laid_held : Held runs' trits' so'
+  laid_held = record { rs = h.rs ++ operand_runs text o; holds = e h.rs h.holds }
 
-  pub laid-trits : so'.trits ≤ so.trits + widths (parts_at text o)
-  laid-trits =
+  pub laid_trits : so'.trits ≤ so.trits + widths (parts_at text o)
+  laid_trits =
       let a = run_bits_append h.rs (operand_runs text o) in
       let b = operand_trits text o in
       omega (arith, h.holds.filled, (e h.rs h.holds).filled)

@@ -60,26 +60,26 @@ module _ (text : List ℕ) (k : ℕ) (s : Spot) (e : s ≡ spot_at text k) where
 -- AN OPERAND ON ITS WAY, where its next part is asked for by its numbers
 module _ (text : List ℕ) (all : List PartAt) (runs₀ trits₀ : List ℕ) (so₀ : Laid) (k f : ℕ) (s : Spot) (e : s ≡ spot_at text k)
     {runs trits : List ℕ} {so : Laid} {bare : Bool} (w : Walks text all (parts_from f text k) runs₀ trits₀ so₀ runs trits so bare) where
-  pub spot-done : s.closed ≡ true → PartsLaid text all runs₀ trits₀ so₀ (operandLaying.Laid so bare) runs trits
-  spot-done h = walks_done text all runs₀ trits₀ so₀ (walks_as (parts_shut text k s e h f) w)
+  pub spot_done : s.closed ≡ true → PartsLaid text all runs₀ trits₀ so₀ (operandLaying.Laid so bare) runs trits
+  spot_done h = walks_done text all runs₀ trits₀ so₀ (walks_as (parts_shut text k s e h f) w)
 
   module _ (h : s.found ≡ true) (l : 0 < f) where
     place : Place
     place = (parts_spot text k s e h f l).place
 
-    walks-on : Walks text all (spot_part s place ∷ parts_from (f - 1) text s.end) runs₀ trits₀ so₀ runs trits so bare
+    walks_on : Walks text all (spot_part s place ∷ parts_from (f - 1) text s.end) runs₀ trits₀ so₀ runs trits so bare
     unfolding place
-    walks-on = walks_as (parts_spot text k s e h f l).is w
+    walks_on = walks_as (parts_spot text k s e h f l).is w
 
-    pub spot-fits : PartsFit all runs₀ trits₀ so₀ → (s.cell ≤ 65535) × (s.offset ≤ 65535) × OpenedRows so₀.runs runs so s.width
-    spot-fits g =
-        let m = walks_fits text all runs₀ trits₀ so₀ (spot_part s place) (parts_from (f - 1) text s.end) walks-on g in
+    pub spot_fits : PartsFit all runs₀ trits₀ so₀ → (s.cell ≤ 65535) × (s.offset ≤ 65535) × OpenedRows so₀.runs runs so s.width
+    spot_fits g =
+        let m = walks_fits text all runs₀ trits₀ so₀ (spot_part s place) (parts_from (f - 1) text s.end) walks_on g in
         (m.0.0, m.0.1, record { trits = trits; opened = m.1 })
 
-    pub spot-more : {runs' : List ℕ} {so' : Laid} {bare' : Bool} → ((ts : List ℕ) → Grows so₀.runs runs ts so (falling s.cell s.offset s.width) (laying.Laid so') runs' ts)
+    pub spot_more : {runs' : List ℕ} {so' : Laid} {bare' : Bool} → ((ts : List ℕ) → Grows so₀.runs runs ts so (falling s.cell s.offset s.width) (laying.Laid so') runs' ts)
         → bare' ≡ bare || eqb s.width 0 → Walks text all (parts_from (f - 1) text s.end) runs₀ trits₀ so₀ runs' trits so' bare'
-    spot-more g b = walks_more text all runs₀ trits₀ so₀ (spot_part s place) (parts_from (f - 1) text s.end) walks-on (g trits) b
+    spot_more g b = walks_more text all runs₀ trits₀ so₀ (spot_part s place) (parts_from (f - 1) text s.end) walks_on (g trits) b
 
-    pub spot-full : {runs' : List ℕ} → ((ts : List ℕ) → Grows so₀.runs runs ts so (falling s.cell s.offset s.width) laying.Full runs' ts)
+    pub spot_full : {runs' : List ℕ} → ((ts : List ℕ) → Grows so₀.runs runs ts so (falling s.cell s.offset s.width) laying.Full runs' ts)
         → PartsLaid text all runs₀ trits₀ so₀ operandLaying.Full runs' trits
-    spot-full g = walks_full text all runs₀ trits₀ so₀ (spot_part s place) (parts_from (f - 1) text s.end) walks-on (g trits)
+    spot_full g = walks_full text all runs₀ trits₀ so₀ (spot_part s place) (parts_from (f - 1) text s.end) walks_on (g trits)

@@ -124,22 +124,22 @@ module _ (text : List ℕ) (b : Base) (count left : ℕ) {first : ℕ} {runs₀ 
     one_more : Turned first runs₀ trits₀ so₀ (copies count (base_bits text b)) (base_bits text b ++ copies (left - 1) (base_bits text b)) runs trits so
     one_more = turned_as (copies_more left (base_bits text b) some) t
 
-    pub copies-room : BaseIn text b → Opened first runs₀ trits₀ so₀ (count * base_width b) → Opened first runs trits so (base_width b)
-    copies-room i h =
+    pub copies_room : BaseIn text b → Opened first runs₀ trits₀ so₀ (count * base_width b) → Opened first runs trits so (base_width b)
+    copies_room i h =
         let w = base_wide text b i in
         let l : length (copies count (base_bits text b)) ≡ count * base_width b = length_copies count (base_bits text b) ∙ rw w in
         turned_room (base_bits text b ++ copies (left - 1) (base_bits text b)) one_more h (omega arith) (base_width b) (rw length-append (omega arith))
 
-    pub copies-turn : {runs' trits' : List ℕ} {so' : Laid} → Grows first runs trits so (base_bits text b) (laying.Laid so') runs' trits'
+    pub copies_turn : {runs' trits' : List ℕ} {so' : Laid} → Grows first runs trits so (base_bits text b) (laying.Laid so') runs' trits'
         → Turned first runs₀ trits₀ so₀ (copies count (base_bits text b)) (copies (left - 1) (base_bits text b)) runs' trits' so'
-    copies-turn g = turned_more (base_bits text b) (copies (left - 1) (base_bits text b)) one_more g
+    copies_turn g = turned_more (base_bits text b) (copies (left - 1) (base_bits text b)) one_more g
 
-    pub copies-stop : {runs' trits' : List ℕ} → Grows first runs trits so (base_bits text b) laying.Full runs' trits'
+    pub copies_stop : {runs' trits' : List ℕ} → Grows first runs trits so (base_bits text b) laying.Full runs' trits'
         → Grows first runs₀ trits₀ so₀ (copies count (base_bits text b)) laying.Full runs' trits'
-    copies-stop g = turned_full (base_bits text b) (copies (left - 1) (base_bits text b)) one_more g
+    copies_stop g = turned_full (base_bits text b) (copies (left - 1) (base_bits text b)) one_more g
 
-  pub copies-end : left ≤ 0 → Grows first runs₀ trits₀ so₀ (copies count (base_bits text b)) (laying.Laid so) runs trits
-  copies-end z =
+  pub copies_end : left ≤ 0 → Grows first runs₀ trits₀ so₀ (copies count (base_bits text b)) (laying.Laid so) runs trits
+  copies_end z =
       let e : left ≡ 0 = omega arith in
       turned_all (turned_as (ap (λ (n : ℕ). copies n (base_bits text b)) e ∙ copies_none (base_bits text b)) t)
 

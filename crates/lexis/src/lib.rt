@@ -1,17 +1,19 @@
 // Lexis: from bytes to tokens. It promises that each token and each refusal 5 and 6 with its place are those that the definitions of
 // specs/ give. The form of declarations stands above it, the signs that tokens are made of below.
+#![tactic(auto)]
+
 pub mod tokens;
 
 use ground::{Place, Refusal};
 
 // Where the reader stands, past what it has read.
-#[derive(Drop)]
+#[derive(Clone, Copy)]
 pub struct Reader {
     pub next: Place,
 }
 
 // A token. Its sort says which fields count; the others are 0.
-#[derive(Drop)]
+#[derive(Clone, Copy)]
 pub struct Token {
     pub sort: u8,
     pub place: Place,
@@ -25,14 +27,14 @@ pub struct Token {
 }
 
 // A token together with the moved reader, or a refusal with its place.
-#[derive(Drop)]
+#[derive(Clone, Copy)]
 pub enum Step {
     Took(Token, Reader),
     Refused(Refusal),
 }
 
 // A cell identifier between brackets, without a count, by its numbers and the place past it; `closed` where `]` stands there instead.
-#[derive(Drop)]
+#[derive(Clone, Copy)]
 pub struct Spot {
     pub found: bool,
     pub closed: bool,
@@ -43,7 +45,7 @@ pub struct Spot {
 }
 
 // A reference between brackets: its index, its place and the place past it.
-#[derive(Drop)]
+#[derive(Clone, Copy)]
 pub struct Link {
     pub found: bool,
     pub index: u32,

@@ -1,5 +1,7 @@
 // The check of a load list: record after record, with the numbers that the next input and output must have. It promises, for every list,
 // the place of its first bad record, or its numbers of inputs and outputs, as the definitions of loadlist give them. The run stands above it.
+#![tactic(auto)]
+
 ghost use Rattle.std.specs.Prelude.{◌≡◌, ◌&&◌, ◌+◌, ◌*◌, ◌≤◌, ◌<◌, ltb, drop};
 ghost use Rattle.loadlist.specs.Check.{marked, is_whole, first_fits, second_fits, fits, good_record, counted, listed_of};
 

@@ -1,5 +1,7 @@
 // How many records a lent list has, a part of one counted. It promises the number for any bytes. The check of a list and the record reader
 // stand above it.
+#![tactic(auto)]
+
 ghost use Rattle.std.specs.Prelude.{◌≡◌};
 ghost use Rattle.loadlist.specs.Check.{record_count};
 

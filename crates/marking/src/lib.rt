@@ -1,5 +1,7 @@
 // Marks of names: a name that is like none of those marked before is told without a look at them. It promises the mark that the
 // definitions give, and a map that has it afterwards. Netlist stands below it, the check of tables and the reader above.
+#![tactic(auto)]
+
 ghost use Rattle.std.specs.Prelude.{◌≡◌, eqb, drop, get_or, set};
 ghost use Rattle.marking.specs.Marks.{mark_kind, mark_more, mark_from, mark_of, place_of};
 

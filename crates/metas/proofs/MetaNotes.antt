@@ -66,8 +66,8 @@ held_count h = sym (length_mapped (λ (x : MetaNote). x.meta) h.notes) ∙ ap le
 module _ (text : List ℕ) (ms : List Meta) (numbers metas pool trits numbered : List ℕ) (h : MetasHeld text ms numbers metas pool trits numbered)
     (r : MetaRow) (m : Meta) (s : RowSays text r m) (index k j b : ℕ) (few : length ms < 512) (at : k ≡ length ms) (atMembers : j ≡ length (members_of ms)) (atTrits : b ≡ length (attr_bits_of ms))
     (room : length (members_of ms) + length m.members ≤ 1024) (narrow : length m.bits ≤ 256) (new : row_of numbers index ≡ 0) (small : index < 65536) where
-  pub metas-held : MetasHeld text (ms ++ (m ∷ [])) (numbers ++ (index ∷ [])) (sets metas (k * 16) (meta_words r)) (sets pool j m.members) (sets trits b m.bits) (set numbered index (k + 1))
-  metas-held =
+  pub metas_held : MetasHeld text (ms ++ (m ∷ [])) (numbers ++ (index ∷ [])) (sets metas (k * 16) (meta_words r)) (sets pool j m.members) (sets trits b m.bits) (set numbered index (k + 1))
+  metas_held =
       let x : MetaNote = record { meta = m; name_at = r.name.at; text_at = r.text.at } in
       let c = held_count h in
       let n = h.narrow in
@@ -117,8 +117,8 @@ meta_tallied text N m r n t s h = record {
 module _ (text : List ℕ) (so : Sofar) (n : Tally) (rows bits work : List ℕ) (d : Noted text so n rows bits work) (r : MetaRow) (m : Meta) (s : RowSays text r m) (index : ℕ)
     (room : n.metas < 512) (members : n.members + length m.members ≤ 1024) (narrow : length m.bits ≤ 256) (new : row_of so.meta_numbers index ≡ 0) (small : index < 65536)
     (fits : roomy (meta_more so.netlist m) ≡ true) where
-  pub meta-noted : Noted text (with_meta so index m) (meta_tally n r) (rows_with rows n m.members r) (wrote 0 131072 bits (sets (part 0 131072 bits) n.trits m.bits)) (wrote 65536 65536 work (set (part 65536 65536 work) index (n.metas + 1)))
-  meta-noted =
+  pub meta_noted : Noted text (with_meta so index m) (meta_tally n r) (rows_with rows n m.members r) (wrote 0 131072 bits (sets (part 0 131072 bits) n.trits m.bits)) (wrote 65536 65536 work (set (part 65536 65536 work) index (n.metas + 1)))
+  meta_noted =
       let t = d.tally in
       let p = sets (part 8195 1024 rows) n.members m.members in
       let a = wrote 8195 1024 rows p in
@@ -141,7 +141,7 @@ module _ (text : List ℕ) (so : Sofar) (n : Tally) (rows bits work : List ℕ) 
       let fit : length (members_of so.netlist.metas) + length m.members ≤ 1024 = omega (arith, t.members) in
       let x1 : part 3 8192 (wrote 3 8192 a q) ≡ sets (part 3 8192 rows) (n.metas * 16) (meta_words r) = part_put 3 8192 a q rq eq ∙ ap (λ (l : List ℕ). sets l (n.metas * 16) (meta_words r)) (part_before 8195 1024 rows p rp ep 3 8192 (omega arith)) in
       let x2 : part 8195 1024 (wrote 3 8192 a q) ≡ p = part_after 3 8192 a q rq eq 8195 1024 (omega arith) ∙ part_put 8195 1024 rows p rp ep in
-      let h = metas-held text so.netlist.metas so.meta_numbers (part 3 8192 rows) (part 8195 1024 rows) (part 0 131072 bits) (part 65536 65536 work) d.metas r m s index n.metas n.members n.trits few t.metas t.members t.trits fit narrow new small in
+      let h = metas_held text so.netlist.metas so.meta_numbers (part 3 8192 rows) (part 8195 1024 rows) (part 0 131072 bits) (part 65536 65536 work) d.metas r m s index n.metas n.members n.trits few t.metas t.members t.trits fit narrow new small in
       record {
         long_rows = length_put 3 8192 a q rq eq ∙ la;
         long_bits = length_put 0 131072 bits b rb eb ∙ lb;

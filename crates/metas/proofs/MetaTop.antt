@@ -32,7 +32,7 @@ use Rattle.noting.proofs.Growing.{length_last, last_of_every}
 use Rattle.noting.proofs.Limits.{meta_strings_lem, meta_members}
 use Rattle.noting.proofs.Passing.{passes, passed_none, not_false}
 use Rattle.metas.proofs.MetaLaws.{row_says}
-use Rattle.metas.proofs.MetaNotes.{meta-noted}
+use Rattle.metas.proofs.MetaNotes.{meta_noted}
 use Rattle.metas.proofs.MetaAfter.{meta_said_lem, members_same, trits_same, members_long, meta_rules, meta_rules_lem, MetaPassed, meta_passed, bits_narrow}
 
 module _ (text : List ℕ) (so : Sofar) (n : Tally) (rows bits work : List ℕ) (d : Declared) (row : MetaRow) (noted : Noted text so n rows bits work) (formed : Formed text d)
@@ -63,8 +63,8 @@ module _ (text : List ℕ) (so : Sofar) (n : Tally) (rows bits work : List ℕ) 
   narrow : length m.bits ≤ 256
   narrow = bits_narrow text so.meta_numbers d.decl (not_false (attr_width m) limits.0)
 
-  pub meta-room : MetaRoom row n
-  meta-room =
+  pub meta_room : MetaRoom row n
+  meta_room =
       let r = roomy_is (meta_more so.netlist m) fits in
       let t = noted.tally in
       let s = said in
@@ -81,26 +81,26 @@ module _ (text : List ℕ) (so : Sofar) (n : Tally) (rows bits work : List ℕ) 
         strings = omega (arith, r.strings, t.strings, s.name, s.second, meta_strings_lem so.netlist m);
       }
 
-  pub few-trits : n.trits + length m.bits ≤ 131072
-  few-trits = let k = narrow in let r = meta-room.room in omega (arith, noted.metas.narrow, noted.tally.trits, noted.tally.metas)
+  pub few_trits : n.trits + length m.bits ≤ 131072
+  few_trits = let k = narrow in let r = meta_room.room in omega (arith, noted.metas.narrow, noted.tally.trits, noted.tally.metas)
 
-  pub meta-adds : MetaAdds text d row n rows bits work
-  meta-adds =
-      let q = meta-room in record {
+  pub meta_adds : MetaAdds text d row n rows bits work
+  meta_adds =
+      let q = meta_room in record {
         long_rows = noted.long_rows;
         long_bits = noted.long_bits;
         long_work = noted.long_work;
         room = q;
         members = λ ns. let a = q.members in let b = said.members in let c : length m.members ≡ length (members_said text so.meta_numbers d.decl) = ap length (members_same text so.meta_numbers d.decl) in omega (arith, members_long text ns so.meta_numbers d.decl);
-        trits = let c : length m.bits ≡ length (trits_said text d.decl) = ap length (trits_same text so.meta_numbers d.decl) in omega (arith, few-trits);
+        trits = let c : length m.bits ≡ length (trits_said text d.decl) = ap length (trits_same text so.meta_numbers d.decl) in omega (arith, few_trits);
       }
 
-  pub meta-after : (rows' bits' work' : List ℕ) → MetaAdded text d row n rows bits work rows' bits' work' → After text so d (noting.More (meta_tally n row)) rows' bits' work'
+  pub meta_after : (rows' bits' work' : List ℕ) → MetaAdded text d row n rows bits work rows' bits' work' → After text so d (noting.More (meta_tally n row)) rows' bits' work'
   unfolding added
-  meta-after rows' bits' work' a =
-      let q = meta-room in
+  meta_after rows' bits' work' a =
+      let q = meta_room in
       let e : n.members + length m.members ≤ 1024 = omega (arith, q.members, said.members) in
-      let w = meta-noted text so n rows bits work noted row m said d.index q.room e narrow new formed.index fits in
+      let w = meta_noted text so n rows bits work noted row m said d.index q.room e narrow new formed.index fits in
       let f : rows' ≡ rows_with rows n m.members row = a.in_rows so.meta_numbers noted.metas.maps ∙ ap (λ (x : List ℕ). rows_with rows n x row) (sym (members_same text so.meta_numbers d.decl)) in
       let g : bits' ≡ wrote 0 131072 bits (sets (part 0 131072 bits) n.trits m.bits) = a.in_bits ∙ ap (λ (x : List ℕ). wrote 0 131072 bits (sets (part 0 131072 bits) n.trits x)) (sym (trits_same text so.meta_numbers d.decl)) in
       (passed_none (ruled_out text so d) passed, rw (meta_said_lem text so d.decl kind, f, g, a.in_work) w)

@@ -32,14 +32,14 @@ use regions::{meta_numbers_of, metas_of};
 use tours::{tour_of, tour_step};
 
 // A string as a row notes it: the place in the text where it begins, 0 for an empty one, and the bytes that it means.
-#[derive(Drop)]
+#[derive(Clone, Copy)]
 pub struct Spot {
     pub at: u32,
     pub size: usize,
 }
 
 // A row of metadata before it is written.
-#[derive(Drop)]
+#[derive(Clone, Copy)]
 pub struct MetaRow {
     pub kind: u32,
     pub name: Spot,

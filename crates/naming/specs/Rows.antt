@@ -16,15 +16,15 @@ field_at metas row i = get_or metas (row * 16 + i) 0
 abbrev pub parent_at : List ℕ → ℕ → ℕ
 parent_at metas row = field_at metas row 9
 
-abbrev pub field_own : List ℕ → List ℕ → ℕ → List ℕ
-field_own metas strings row =
+abbrev pub own_at : List ℕ → List ℕ → ℕ → List ℕ
+own_at metas strings row =
     pick (eqb (field_at metas row 0) indexed_meta) (signed (field_at metas row 11)) (part (field_at metas row 1) (field_at metas row 2) strings)
 
 unfoldable pub name_at : ℕ → List ℕ → List ℕ → ℕ → List ℕ
-name_at zero metas strings row = field_own metas strings row
+name_at zero metas strings row = own_at metas strings row
 name_at (suc f) metas strings row = elim (eqb (parent_at metas row) 0) [
-  | true ↦ field_own metas strings row
-  | false ↦ name_at f metas strings (parent_at metas row - 1) ++ (47 ∷ field_own metas strings row)
+  | true ↦ own_at metas strings row
+  | false ↦ name_at f metas strings (parent_at metas row - 1) ++ (47 ∷ own_at metas strings row)
 ]
 
 abbrev pub ident_at : ℕ → List ℕ → ℕ → Bool

@@ -1,5 +1,7 @@
 // Naming: the full name of an ident, parent first. It promises the name, its length and every byte of the room as the definitions
 // of specs/ give them. The check of tables stands below it, the programs above.
+#![tactic(auto)]
+
 mod names;
 
 ghost use Rattle.std.specs.Prelude.{◌≡◌, ◌+◌};
@@ -15,7 +17,7 @@ use netlist::Checked;
 use regions::{metas_of, strings_of};
 
 // The length of the name written, or a refusal.
-#[derive(Drop)]
+#[derive(Clone, Copy)]
 pub enum Named {
     Length(usize),
     Refused(Refusal),

@@ -1,16 +1,18 @@
 // The netlist: what it is as a value, when it is valid, how tables hold it, and which tables are good. Nothing runs here:
 // the check of tables and the lookup of I/O stand in checking. Reading, printing and logic stand above it; it knows no text.
+#![tactic(auto)]
+
 use ground::Refusal;
 
 // What the check of tables answers.
-#[derive(Drop)]
+#[derive(Clone, Copy)]
 pub enum Checked {
     Good,
     Refused(Refusal),
 }
 
 // The I/O row found, and its width.
-#[derive(Drop)]
+#[derive(Clone, Copy)]
 pub enum Found {
     Row(usize, u32),
     Refused(Refusal),

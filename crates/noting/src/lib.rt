@@ -1,6 +1,7 @@
 // Noting: what stands in the lent tables and the work space while a text is read, how much it is, and what a declaration of good form
 // brings; and a refusal as a step of reading tells it. Asking and laying stand below it; the declarations of I/O, metadata and cells, the
 // loop over them and reading above.
+#![tactic(auto)]
 ghost use Rattle.std.specs.Prelude.{◌≡◌};
 ghost use Rattle.ground.specs.Refusals.{refusal};
 ghost use Rattle.noting.specs.declared.Ruling.TheVariants.{Refused};
@@ -9,7 +10,7 @@ use ground::{Place, Refusal};
 
 // How much the text brought so far: rows, members of sets, trits of attributes, runs, known trits in them, declared cell bits,
 // output bits, and bytes of strings; and whether a part without bits was read, of which the runs tell nothing.
-#[derive(Drop)]
+#[derive(Clone, Copy)]
 pub struct Tally {
     pub metas: usize,
     pub ios: usize,
@@ -25,14 +26,14 @@ pub struct Tally {
 }
 
 // A declaration more is noted, or why it is refused.
-#[derive(Drop)]
+#[derive(Clone, Copy)]
 pub enum Noting {
     More(Tally),
     Refused(Refusal),
 }
 
 // Whether the rules 9 to 13 let a declaration pass.
-#[derive(Drop)]
+#[derive(Clone, Copy)]
 pub enum Ruling {
     Passed,
     Refused(Refusal),

@@ -30,7 +30,7 @@ widths_of_lem T pool (suc n) rows = ap (λ (l : List ℕ). get_or rows 1 0 ∷ l
 pub numbers_of : (n : ℕ) (cs : List Cell) → numbers_from n cs ≡ numbers_by n (widths_of cs)
 unfolding numbers_from numbers_by
 numbers_of n [] = refl
-numbers_of n (c ∷ cs) = ap (λ (l : List ℕ). n ∷ l) (numbers_of _ cs)
+numbers_of n (c ∷ cs) = ap (λ (l : List ℕ). n ∷ l) (numbers_of (n + pick (eqb c.width 0) 1 c.width) cs)
 
 pub widths_length : (n : ℕ) (rows : List ℕ) → length (row_widths n rows) ≡ n
 unfolding row_widths
@@ -40,7 +40,7 @@ widths_length (suc n) rows = ap suc (widths_length n (drop 9 rows))
 pub numbers_length : (n : ℕ) (ws : List ℕ) → length (numbers_by n ws) ≡ length ws
 unfolding numbers_by
 numbers_length n [] = refl
-numbers_length n (w ∷ ws) = ap suc (numbers_length _ ws)
+numbers_length n (w ∷ ws) = ap suc (numbers_length (n + pick (eqb w 0) 1 w) ws)
 
 -- words written over the whole of a slice
 pub sets_whole : (old xs : List ℕ) → length xs ≡ length old → sets old 0 xs ≡ xs

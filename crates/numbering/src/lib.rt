@@ -1,5 +1,7 @@
 // Numbering: the widths and numbers of all cells, worked out once for a printing. A cell's number is the sum over earlier cells of the
 // greater of 1 and its width. The netlist stands below it, printing above.
+#![tactic(auto)]
+
 ghost use Rattle.std.specs.Prelude.{◌≡◌, true, List, ℕ, ◌≤◌, eqb, length};
 ghost use Rattle.ground.specs.Choice.{pick};
 ghost use Rattle.ground.specs.Lists.{every};

@@ -1,5 +1,7 @@
 // Numerals: digits from a place on, with a limit, and the parts `+`, `:` and `*`. No number of digits overflows. It promises the numbers
 // and places that the definitions of signs give. Tokens stand above it.
+#![tactic(auto)]
+
 ghost use Rattle.std.specs.Prelude.{◌≡◌, true, false, ◌+◌, ◌<◌, ◌≤◌};
 ghost use Rattle.signs.specs.Bytes.{is_digit};
 ghost use Rattle.signs.specs.Pieces.{grown_past, limited, numeral_at, suffix_at};

@@ -1,5 +1,7 @@
 // Operands: the runs of a cell's operand as they stand in the canonical text, put into lent room. The numbers and widths of all cells
 // are lent, a word a row, so that a piece looks its cell up once. Writing stands below it, printing above.
+#![tactic(auto)]
+
 ghost use Rattle.std.specs.Prelude.{◌≡◌, Bool, true, ◌&&◌, List, ℕ, ◌-◌, ◌<◌, ◌≤◌, eqb, length, get_or};
 ghost use Rattle.ground.specs.Lists.{every};
 ghost use Rattle.ground.specs.Regions.{part};

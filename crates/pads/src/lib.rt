@@ -1,6 +1,8 @@
 // The lookup of I/O over structs: a pad tells where its name lies, how long it is, and the width. It promises the first pad of a lent slice
 // whose name equals the asked one, and so document 01's lookup in lent tables: a slice made of their I/O rows is searched. The check of
 // tables stands below it.
+#![tactic(auto)]
+
 ghost use Rattle.std.specs.Prelude.{◌≡◌, ℕ, ◌+◌, ◌*◌, ◌≤◌, ◌<◌, length, drop};
 ghost use Rattle.ground.specs.Choice.{pick};
 ghost use Rattle.ground.specs.Refusals.{at, refusal};
@@ -18,7 +20,7 @@ use pools::word_of;
 use regions::{ios_of, strings_of};
 use words::wide;
 
-#[derive(Drop)]
+#[derive(Clone, Copy)]
 pub struct Pad {
     pub start: u32,
     pub length: u32,

@@ -1,5 +1,7 @@
 // Placing: the order in which cells are worked out or translated, and rings. It promises the order of document 01 and whether a cell is
 // left out, for the words of good tables. The graph and the cells stand below it; evaluating and translating above.
+#![tactic(auto)]
+
 mod search;
 mod turns;
 
@@ -15,7 +17,7 @@ use clearing::clear_words;
 use turns::place_rows;
 
 // How many rows are placed, and whether some row is left out: 20.
-#[derive(Drop)]
+#[derive(Clone, Copy)]
 pub struct Placed {
     pub count: usize,
     pub ring: bool,

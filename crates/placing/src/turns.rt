@@ -7,7 +7,7 @@ ghost use Rattle.placing.specs.Marks.{waited_by, on_from, note_of, noted, Going,
 use crate::search::open_read;
 
 // Where a placing stands: the rows below `low` are placed or wait; `count` rows are placed.
-#[derive(Drop)]
+#[derive(Clone, Copy)]
 pub(crate) struct At {
     low: usize,
     count: usize,

@@ -1,5 +1,7 @@
 // Pools: what lies in the regions and pools of lent tables, and that nothing lies behind it; a word of a row as a number. It promises what
 // the definitions of the ground, of the netlist and of specs/ give. The checks of rows stand above it.
+#![tactic(auto)]
+
 ghost use Rattle.std.specs.Prelude.{◌≡◌, ◌&&◌, ◌<◌, length, drop, get_or};
 ghost use Rattle.ground.specs.Lists.{every};
 ghost use Rattle.ground.specs.Regions.{blank};

@@ -1,5 +1,6 @@
 // Printing: the canonical text of the netlist in lent tables. It promises the text, its length and every byte of the room as the
 // definitions of specs/ give them. The check of tables stands below it, the programs above.
+#![tactic(auto)]
 mod good;
 
 ghost use Rattle.std.specs.Prelude.{◌≡◌, true, ◌≤◌, length};
@@ -16,7 +17,7 @@ use ground::{Place, Refusal};
 use netlist::Checked;
 
 // The length of the text printed, or a refusal.
-#[derive(Drop)]
+#[derive(Clone, Copy)]
 pub enum Printed {
     Length(usize),
     Refused(Refusal),

@@ -11,7 +11,7 @@ use printing::{Printed, print_text};
 
 // How many bytes of the room an answer takes, or why it is refused.
 #[repr(C)]
-#[derive(Drop)]
+#[derive(Clone, Copy)]
 pub struct Wrote {
     pub length: u64,
     pub number: u32,
@@ -48,8 +48,7 @@ fn tell_print(r: Printed) -> Wrote
 }
 
 // The canonical text of the netlist in three lent tables, printed into lent room: refusal 1, 15 or 24.
-#[unsafe(no_mangle)]
-pub extern "C" fn grackle_print(
+pub fn grackle_print(
     rows: &[u32],
     strings: &[u8],
     trits: &[u8],
@@ -70,8 +69,7 @@ fn tell_name(r: Named) -> Wrote
 }
 
 // The full name of the ident in a row of three lent tables, written into lent room: refusal 1, 15, 16 or 24.
-#[unsafe(no_mangle)]
-pub extern "C" fn grackle_name(
+pub fn grackle_name(
     rows: &[u32],
     strings: &[u8],
     trits: &[u8],

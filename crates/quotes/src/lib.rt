@@ -1,5 +1,7 @@
 // Quotes: strings in quotes and constants, parts of a pool put into lent room. A part that would go past the pool's end is short. It
 // promises the text that the definitions of writing give. The lines of the text stand above it.
+#![tactic(auto)]
+
 ghost use Rattle.std.specs.Prelude.{◌≡◌, true, [], ◌∷◌, ◌+◌, ◌<◌};
 ghost use Rattle.ground.specs.Lists.{every};
 ghost use Rattle.ground.specs.Regions.{part};

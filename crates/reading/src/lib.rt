@@ -4,7 +4,7 @@
 use ground::Refusal;
 
 // What reading answers.
-#[derive(Drop)]
+#[derive(Clone, Copy)]
 pub enum Read {
     Accepted,
     Refused(Refusal),

@@ -18,8 +18,7 @@ fn tell_read(r: Read) -> Told
 }
 
 // The reading of a text into three lent tables, in lent work space: refusal 1 to 14 with its place.
-#[unsafe(no_mangle)]
-pub extern "C" fn grackle_read(
+pub fn grackle_read(
     text: &[u8],
     rows: &mut [u32],
     strings: &mut [u8],

@@ -1,6 +1,8 @@
 // The record reader: the lent load list and the number of the record it stands at. It promises the reader at the first record, whether a
 // record is left, the record's operation and fields, and the reader at the next record; read so, a list gives each of its records once and
 // in order. The work is in functions on the plain list. Records stand below it; the listing above.
+#![tactic(auto)]
+
 ghost use Rattle.std.specs.Prelude.{◌≡◌, Bool, ℕ, ◌<◌};
 ghost use Rattle.records.specs.Reader.{is_left_at, number_after, record_at, at_first, is_left, record_of, moved};
 
@@ -8,7 +10,7 @@ use listcount::record_count;
 use loadlist::Record;
 use loadlist::records::record_at;
 
-#[derive(Drop)]
+#[derive(Clone, Copy)]
 pub struct Records<'a> {
     pub list: &'a [u8],
     pub number: usize,

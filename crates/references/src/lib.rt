@@ -1,5 +1,7 @@
 // References: references to metadata, alone, as the members of a set, and behind an option's word, put into lent room. It promises the text
 // that the definitions of writing give. The lines of the text stand above it.
+#![tactic(auto)]
+
 ghost use Rattle.std.specs.Prelude.{◌≡◌, List, ℕ, ◌-◌, ◌≤◌, length};
 ghost use Rattle.ground.specs.Regions.{part};
 ghost use Rattle.writing.specs.Parts.{up_to};

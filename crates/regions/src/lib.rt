@@ -1,5 +1,7 @@
 // Regions: the parts of lent tables by their names (docs/LAYOUT.md). It promises that each is the part of the slice that the layout
 // says, as far as the slice goes. Whatever takes whole tables stands above it, the ground below it.
+#![tactic(auto)]
+
 ghost use Rattle.std.specs.Prelude.{◌≡◌};
 ghost use Rattle.ground.specs.Regions.{part};
 

@@ -1,5 +1,6 @@
 // Resolving: when all declarations are noted, whether each piece of the text resolves (14). It promises the place of the first piece that
 // does not, zero-width and zero-times ones included. Saying stands below it, reading above.
+#![tactic(auto)]
 ghost use Rattle.std.specs.Prelude.{◌≡◌, ◌≤◌, length};
 ghost use Rattle.brackets.specs.Parts.{parts_at};
 ghost use Rattle.saying.specs.Pieces.{base_in};
@@ -11,7 +12,7 @@ use walks::{operand_walk, walk_next};
 use words::word_at;
 
 // The place of the first piece that does not resolve.
-#[derive(Drop)]
+#[derive(Clone, Copy)]
 pub enum Lost {
     At(Place),
     Nowhere,

@@ -1,5 +1,7 @@
 // Sets between their braces, read member by member and measured. It promises that each member, each number of members and each refusal
 // 5 to 7 is the one that the definitions of brackets give. The form of declarations stands above it, tokens, parts and words below.
+#![tactic(auto)]
+
 ghost use Rattle.std.specs.Prelude.{◌≡◌, ◌-◌, ◌<◌, ◌≤◌, length};
 ghost use Rattle.signs.specs.Bytes.{table};
 ghost use Rattle.lexis.specs.declared.Step.TheVariants.{Took};

@@ -1,5 +1,6 @@
 // Settling: when all of a text is read, the notes of its rows become the rows of docs/LAYOUT.md: every start is filled in, and the
 // strings are laid one behind the other in the order of the canonical text. Saying stands below it, reading above.
+#![tactic(auto)]
 ghost use Rattle.std.specs.Prelude.{◌≡◌, List, ℕ, ◌+◌, ◌*◌, ◌<◌, ◌≤◌, length, get_or, set};
 ghost use Rattle.std.proofs.lemmas.List.Edits.{sets};
 ghost use Rattle.saying.specs.Notes.{spelled};
@@ -9,7 +10,7 @@ use decoding::fill;
 use words::wide;
 
 // Where the next string, member and attribute trit lie.
-#[derive(Drop)]
+#[derive(Clone, Copy)]
 pub struct Starts {
     pub strings: usize,
     pub members: usize,
@@ -17,7 +18,7 @@ pub struct Starts {
 }
 
 // Where the next string and the next run lie.
-#[derive(Drop)]
+#[derive(Clone, Copy)]
 pub struct CellStarts {
     pub strings: usize,
     pub runs: usize,

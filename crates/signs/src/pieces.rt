@@ -5,7 +5,7 @@ ghost use Rattle.signs.specs.Bytes.{table, within, among};
 use crate::classes::class_at;
 
 // A numeral: its value, or that it is past its limit, and the place past its digits.
-#[derive(Drop)]
+#[derive(Clone, Copy)]
 pub struct Numeral {
     pub value: u32,
     pub large: bool,
@@ -13,7 +13,7 @@ pub struct Numeral {
 }
 
 // A part behind a mark: whether it is written, whether its digits are missing, and its numeral.
-#[derive(Drop)]
+#[derive(Clone, Copy)]
 pub struct Suffix {
     pub given: bool,
     pub broken: bool,
@@ -23,14 +23,14 @@ pub struct Suffix {
 }
 
 // A string: how many bytes it means and the place past its closing quote, or that it is malformed.
-#[derive(Drop)]
+#[derive(Clone, Copy)]
 pub enum Quoted {
     Closed { size: usize, end: usize },
     Malformed,
 }
 
 // A byte of a string, and the place past what is written for it.
-#[derive(Drop)]
+#[derive(Clone, Copy)]
 pub struct Meant {
     pub byte: u8,
     pub end: usize,

@@ -1,5 +1,7 @@
 // Spans: where bytes of one kind end, and comments, and white space between brackets. Each function reads the text once, from a place
 // on, with the lent table of classes. It promises the places that the definitions of signs give. Tokens stand above it.
+#![tactic(auto)]
+
 ghost use Rattle.std.specs.Prelude.{◌≡◌, true, false, ◌+◌, ◌<◌, ◌≤◌, eqb, length, drop};
 ghost use Rattle.signs.specs.Bytes.{table, among};
 ghost use Rattle.signs.specs.Pieces.{span_end, comment_end, inside_move, inside_end};

@@ -1,5 +1,7 @@
 // Quick ways past whole tokens: a cell piece or a reference between brackets by its numbers, and one byte behind white space. It promises
 // what the definitions of lexis give of the token that stands there. Lexis stands below it; what stands between brackets above.
+#![tactic(auto)]
+
 ghost use Rattle.std.specs.Prelude.{◌≡◌, ◌<◌, length};
 ghost use Rattle.signs.specs.Bytes.{table};
 ghost use Rattle.signs.specs.Pieces.{suffix_at};

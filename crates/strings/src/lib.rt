@@ -1,5 +1,7 @@
 // Strings: how many bytes a string means and where it ends, or that it is malformed. It promises what the definitions of signs give. Tokens
 // and the bytes of strings stand above it.
+#![tactic(auto)]
+
 ghost use Rattle.std.specs.Prelude.{◌≡◌, true, ◌&&◌, ◌+◌, ◌<◌, ◌≤◌, length, get_or};
 ghost use Rattle.signs.specs.Bytes.{table, is_hex, is_raw};
 ghost use Rattle.signs.specs.Pieces.{taken_at, quoted_at};

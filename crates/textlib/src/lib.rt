@@ -1,5 +1,6 @@
 // The C library's functions of texts: the whole text and the count of its tokens, their answers told as numbers, with refusal number 0
 // where nothing is refused. It promises what scanning and lexis promise.
+#![tactic(auto)]
 ghost use Rattle.std.specs.Prelude.{◌≡◌, ◌+◌, ◌≤◌, length};
 ghost use Rattle.signs.specs.Bytes.{table};
 ghost use Rattle.scanning.specs.Whole.{whole_of};
@@ -13,7 +14,7 @@ use signs::classes::classes;
 
 // A refusal number with its place; 0 and 0 where nothing is refused.
 #[repr(C)]
-#[derive(Drop)]
+#[derive(Clone, Copy)]
 pub struct Told {
     pub number: u32,
     pub place: u64,
@@ -21,7 +22,7 @@ pub struct Told {
 
 // How many tokens a text has, or why it is refused.
 #[repr(C)]
-#[derive(Drop)]
+#[derive(Clone, Copy)]
 pub struct Counted {
     pub tokens: u64,
     pub number: u32,
@@ -29,7 +30,7 @@ pub struct Counted {
 }
 
 // What a token does to a count: on to a place, the text's end, or a refusal.
-#[derive(Drop)]
+#[derive(Clone, Copy)]
 pub enum Moved {
     On(usize),
     Ended,
@@ -115,8 +116,7 @@ pub fn told_by(g: Refusal) -> Told
 }
 
 // The text as a whole: refusal 2, 3 or 4 with its place.
-#[unsafe(no_mangle)]
-pub extern "C" fn grackle_whole(text: &[u8]) -> Told
+pub fn grackle_whole(text: &[u8]) -> Told
     ensures { result ≡ told (whole_of text.now) }
 {
     match whole(text) {
@@ -126,8 +126,7 @@ pub extern "C" fn grackle_whole(text: &[u8]) -> Told
 }
 
 // The tokens of a text that is sound as a whole, line ends counted: how many, or the first refusal 2 to 6 with its place.
-#[unsafe(no_mangle)]
-pub extern "C" fn grackle_tokens(text: &[u8]) -> Counted
+pub fn grackle_tokens(text: &[u8]) -> Counted
     ensures { result ≡ tokens_of text.now }
 {
     match whole(text) {

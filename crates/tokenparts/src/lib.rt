@@ -1,5 +1,7 @@
 // Tokens taken as parts of operands, as strings and as references. It promises that each is what the definitions of brackets give for
 // any token. Brackets stands below it; operands, sets and declarations above.
+#![tactic(auto)]
+
 ghost use Rattle.std.specs.Prelude.{◌≡◌, ◌-◌, ◌<◌};
 ghost use Rattle.lexis.specs.Tokens.{took, plain};
 ghost use Rattle.brackets.specs.Parts.{is_part, str, base_of, part_of, ref};

@@ -59,12 +59,12 @@ module _ {cells : List ℕ} {pool : List Run} {starts order : List ℕ} {count f
     unfolding records_in
     split = rw next_row
 
-    pub rowed-room : Roomy old from (records_in (take count order) cells pool starts from first) → Roomy list k mine.records
-    rowed-room = left_room w.lists _ split
+    pub rowed_room : Roomy old from (records_in (take count order) cells pool starts from first) → Roomy list k mine.records
+    rowed_room = left_room w.lists _ split
 
-    pub rowed-more : {next : ℕ} {list' slots' : List ℕ} → Listed list k mine.records next list' → slots' ≡ after → Rowed cells pool starts order count from old first (i + 1) next list' slots'
+    pub rowed_more : {next : ℕ} {list' slots' : List ℕ} → Listed list k mine.records next list' → slots' ≡ after → Rowed cells pool starts order count from old first (i + 1) next list' slots'
     unfolding slots_in
-    rowed-more {next} {list'} {slots'} l s = rw (s, l.next_is) (record {
+    rowed_more {next} {list'} {slots'} l s = rw (s, l.next_is) (record {
       lists = left_on w.lists split (listed_puts l) refl;
       held = rw (next_row, slots_in) at w.held;
       wide = length-sets slots (get_or starts row 0) mine.outs ∙ w.wide;
@@ -78,9 +78,9 @@ module _ {cells : List ℕ} {pool : List Run} {starts order : List ℕ} {count f
     unfolding records_in
     empty = rw ended
 
-    pub rowed-all : Listed old from (records_in (take count order) cells pool starts from first) k list
-    rowed-all = record { is = (left_none w.lists empty).is; next_is = left_next w.lists empty }
+    pub rowed_all : Listed old from (records_in (take count order) cells pool starts from first) k list
+    rowed_all = record { is = (left_none w.lists empty).is; next_is = left_next w.lists empty }
 
-    pub rowed-slots : slots ≡ slots_in (take count order) cells pool starts from first
+    pub rowed_slots : slots ≡ slots_in (take count order) cells pool starts from first
     unfolding slots_in
-    rowed-slots = rw (ended, slots_in) at w.held
+    rowed_slots = rw (ended, slots_in) at w.held

@@ -66,14 +66,14 @@ module _ (pool : List Run) (cells : List ℕ) (row : ℕ) where
 -- AN OPERAND GATHERED into a lent slice that is long enough
 module _ (held : ℕ → List ℕ) (pool : List Run) (from size : ℕ) {old new : List ℕ} {n : ℕ} (p : Put old 0 (bits_from held (part from size pool)) n new) (l : length new ≡ 256)
     (w : operand_width (part from size pool) ≤ 256) where
-  pub operand-count : n ≡ operand_width (part from size pool)
-  operand-count = omega (arith, p.next, length_bits held (part from size pool))
+  pub operand_count : n ≡ operand_width (part from size pool)
+  operand_count = omega (arith, p.next, length_bits held (part from size pool))
 
-  pub operand-long : n ≤ length new
-  operand-long = omega (arith, operand-count)
+  pub operand_long : n ≤ length new
+  operand_long = omega (arith, operand_count)
 
-  pub operand-is : take (n - 0) new ≡ bits_from held (part from size pool)
-  operand-is =
+  pub operand_is : take (n - 0) new ≡ bits_from held (part from size pool)
+  operand_is =
       let e : n - 0 ≡ n = omega arith in
       rw e (taken_back old (bits_from held (part from size pool)) new n p (omega (arith, put_length p, length_bits held (part from size pool))))
 

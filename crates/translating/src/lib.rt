@@ -21,7 +21,7 @@ use regions::{cells_of, run_trits_of, runs_of};
 use tables::{refused, translate_tables};
 
 // The number of records written, or a refusal.
-#[derive(Drop)]
+#[derive(Clone, Copy)]
 pub enum Translated {
     Records(usize),
     Refused(Refusal),

@@ -2,6 +2,8 @@
 // It promises each gate and the carry rule for every byte, and, for bit lists of any length, that the single gates
 // of mux, adc, eq, ult and slt come to their rules.
 // It stands on `ground`; cells, load lists and evaluation stand above it.
+#![tactic(auto)]
+
 ghost use Rattle.std.specs.Prelude.{◌≡◌, ◌≤◌};
 ghost use Rattle.trit.specs.Trit.{not_of, and_of, or_of, xor_of, holds, count_of, carry_of};
 

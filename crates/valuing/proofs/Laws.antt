@@ -98,16 +98,16 @@ module _ (u : ℕ → List ℕ) (pool : List Run) (from size f s : ℕ) (p : fro
   same_put : Put old 0 bits_of n new
   same_put = rw (p, q) at put
 
-  pub gathered-few : n ≤ 256
-  gathered-few = omega (arith, same_put.next, length_bits u (part f s pool), narrow)
+  pub gathered_few : n ≤ 256
+  gathered_few = omega (arith, same_put.next, length_bits u (part f s pool), narrow)
 
   pub gathered : take (n - 0) (drop 0 new) ≡ bits_of
   gathered =
       let e : n - 0 ≡ n = omega arith in
       rw e (taken_back old bits_of new n same_put (omega (arith, length_bits u (part f s pool), narrow, long)))
 
-  pub gathered-room : n ≤ length new
-  gathered-room = omega (arith, gathered-few, put_length put, long)
+  pub gathered_room : n ≤ length new
+  gathered_room = omega (arith, gathered_few, put_length put, long)
 
 -- a value placed from the row's start to its end
 pub valued : (cells starts : List ℕ) (row : ℕ) (old new a b c : List ℕ) (start w : ℕ) → start ≡ get_or starts row 0 → w ≡ get_or (drop (row * 9) cells) 1 0

@@ -34,7 +34,7 @@ total_more f (y ∷ xs) x = omega (arith, total_more f xs x)
 pub every_last : {A : Type 0} (p : A → Bool) (xs : List A) (x : A) → every p xs ≡ true → every p (xs ++ (x ∷ [])) ≡ p x
 unfolding every
 every_last p [] x h = bool_cases (p x) (λ e. rw (e, every)) (λ e. rw (e, every))
-every_last p (y ∷ xs) x h = bool_cases (p y) (λ e. rw (e, every) (every_last p xs x (rw (e, every) at h))) (λ e. rw (e, every) (absurd-of (rw (e, every) at h)))
+every_last p (y ∷ xs) x h = bool_cases (p y) (λ e. rw (e, every) (every_last p xs x (rw (e, every) at h))) (λ e. rw (e, every) (absurd_of (rw (e, every) at h)))
   where
-    absurd-of : {P : Type 0} → false ≡ true → P
-    absurd-of z = let q : ◌≡◌ {A = ℕ} 0 1 = cc in absurd (omega arith)
+    absurd_of : {P : Type 0} → false ≡ true → P
+    absurd_of z = let q : ◌≡◌ {A = ℕ} 0 1 = cc in absurd (omega arith)

@@ -40,8 +40,8 @@ three_pieces text a b c = rw append-nil
 
 module _ (text : List ℕ) (cs : List Cell) (numbers : List ℕ) (pieces : List PieceAt) (cells runs trits numbered places : List ℕ) (laid : Laid) (bare : Bool)
     (h : CellsHeld text cs numbers pieces cells runs trits numbered places laid bare) where
-  pub noted-count : length h.notes ≡ length cs
-  noted-count = sym (length_mapped (λ (x : CellNote). x.cell) h.notes) ∙ ap length h.said
+  pub noted_count : length h.notes ≡ length cs
+  noted_count = sym (length_mapped (λ (x : CellNote). x.cell) h.notes) ∙ ap length h.said
 
   module _ (c : Cell) (at i : ℕ) (oa ob oc : Operand) (few : length cs < 512) (spelt : Spells text at c.name) (narrow : length (run_bits_of (cell_runs c)) ≤ 513)
       (fresh : row_of numbers i ≡ 0) (small : i < 65536) {cells' runs' trits' numbered' places' : List ℕ} {laid' : Laid}
@@ -54,22 +54,22 @@ module _ (text : List ℕ) (cs : List Cell) (numbers : List ℕ) (pieces : List 
     abbrev x : CellNote
     x = record { cell = c; name_at = at }
 
-    long-rows : length (joined cell_note h.notes) ≡ length cs * 9
-    long-rows = joined_length cell_note 9 note_wide h.notes ∙ ap (λ (m : ℕ). m * 9) noted-count
+    long_rows : length (joined cell_note h.notes) ≡ length cs * 9
+    long_rows = joined_length cell_note 9 note_wide h.notes ∙ ap (λ (m : ℕ). m * 9) noted_count
 
     rows_more : cells' ≡ pad 4608 (joined cell_note (h.notes ++ (x ∷ [])))
     rows_more =
-        let e = long-rows in
+        let e = long_rows in
         is-cells ∙ ap (λ (l : List ℕ). sets l k (cell_note x)) h.rows
         ∙ pad_put 4608 k (joined cell_note h.notes) (cell_note x) (omega arith) (omega (arith, note_wide x))
         ∙ ap (pad 4608) (sym (joined_more cell_note h.notes x))
 
-    long-places : length (map operand_word h.operands) ≡ length cs * 3
-    long-places = length_mapped operand_word h.operands ∙ h.threes
+    long_places : length (map operand_word h.operands) ≡ length cs * 3
+    long_places = length_mapped operand_word h.operands ∙ h.threes
 
-    places-more : places' ≡ pad 1536 (map operand_word (h.operands ++ (oa ∷ ob ∷ oc ∷ [])))
-    places-more =
-        let e = long-places in
+    places_more : places' ≡ pad 1536 (map operand_word (h.operands ++ (oa ∷ ob ∷ oc ∷ [])))
+    places_more =
+        let e = long_places in
         is-places ∙ ap (λ (l : List ℕ). sets l j (operand_word oa ∷ operand_word ob ∷ operand_word oc ∷ [])) h.placed
         ∙ pad_put 1536 j (map operand_word h.operands) (operand_word oa ∷ operand_word ob ∷ operand_word oc ∷ []) (omega arith) (omega arith)
         ∙ ap (pad 1536) (sym (map_more operand_word h.operands (oa ∷ ob ∷ oc ∷ [])))
@@ -93,7 +93,7 @@ module _ (text : List ℕ) (cs : List Cell) (numbers : List ℕ) (pieces : List 
           maps = rw (is-map, w) (maps_more numbers numbered i h.maps fresh small);
           count = length-append numbers (i ∷ []) ∙ omega (arith, h.count, length_more);
           operands = h.operands ++ (oa ∷ ob ∷ oc ∷ []);
-          placed = places-more;
+          placed = places_more;
           threes = length-append h.operands (oa ∷ ob ∷ oc ∷ []) ∙ omega (arith, h.threes, length_more);
           asked = joined_append (operand_pieces text) h.operands (oa ∷ ob ∷ oc ∷ []) ∙ rw (h.asked, three_pieces text oa ob oc);
           covered = λ e. rw runs_are (covers_join (h.covered (covers e).0) (covers e).1);

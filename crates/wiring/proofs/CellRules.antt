@@ -34,7 +34,7 @@ use Rattle.noting.specs.declared.Tally.{Tally}
 use Rattle.noting.specs.declared.Noting.{Noting}
 use Rattle.noting.specs.declared.Noting.TheVariants as noting
 use Rattle.wiring.proofs.CellKeep.{name_long, out_is}
-use Rattle.wiring.proofs.CellMore.{noted-count}
+use Rattle.wiring.proofs.CellMore.{noted_count}
 use Rattle.wiring.proofs.CellTight.{cramped}
 
 abbrev pub cell_said : List ℕ → Sofar → Wiring → Said

@@ -129,7 +129,7 @@ fn escape_size(c: u8) -> usize
 }
 
 // Where a room and a line stand.
-#[derive(Drop)]
+#[derive(Clone, Copy)]
 pub struct Spot {
     pub n: usize,
     pub at: usize,

@@ -1,4 +1,5 @@
-use Rattle.std.proofs.Common.{◌≤◌, ◌-◌, length}
+use lib.ListN.{length}
+use Prim.Native.Nat.{◌≤◌, ◌-◌}
 use Rattle.finding.proofs.find.Given as goal
 
 abbrev pub invariant-loop-k : goal.invariant-loop-k

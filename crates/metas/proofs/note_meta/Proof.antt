@@ -1,4 +1,4 @@
-use Rattle.metas.proofs.MetaTop.{meta-room, few-trits, meta-adds, meta-after}
+use Rattle.metas.proofs.MetaTop.{meta_room, few_trits, meta_adds, meta_after}
 use Rattle.noting.proofs.Passing.{refused_some}
 use Rattle.saying.specs.Rules.{ruled_out}
 use Rattle.netlist.proofs.Laying.{roomy_is}
@@ -25,14 +25,14 @@ add-meta-requires : tie.Need-add-meta-requires
 add-meta-requires c κs = let s = c.before.before.before.before.before.before.before.before.before.before.before.before.before.before in let a = s.args in let p = s.requires.2 in
     let w = c.before.before.before.before.before.before.before.before.row_in.ensures p.so.meta_numbers p.noted.metas.maps in
     let g = sym (c.before.before.before.before.before.ruled-in.ensures p.so _ _ p.noted.metas p.noted.tally w) ∙ c.before.before.before.enum_told.given.1 in
-    (s.requires.0, s.requires.1, s.requires.3, meta-adds a.text.now p.so a.n a.rows.now a.bits.now a.work.now a.d _ p.noted s.requires.3 s.requires.4 w g)
+    (s.requires.0, s.requires.1, s.requires.3, meta_adds a.text.now p.so a.n a.rows.now a.bits.now a.work.now a.d _ p.noted s.requires.3 s.requires.4 w g)
 
 meta-more-requires : tie.Need-meta-more-requires
 meta-more-requires c κs = let s = c.before.before.before.before.before.before.before.before.before.before.before.before.before.before.before.before.before.before.before.before.before in let a = s.args in let p = s.requires.2 in
     let w = c.before.before.before.before.before.before.before.before.before.before.before.before.before.before.before.row_in.ensures p.so.meta_numbers p.noted.metas.maps in
     let g = sym (c.before.before.before.before.before.before.before.before.before.before.before.before.ruled-in.ensures p.so _ _ p.noted.metas p.noted.tally w) ∙ c.before.before.before.before.before.before.before.before.before.before.enum_told.given.1 in
-    let f = few-trits a.text.now p.so a.n a.rows.now a.bits.now a.work.now a.d _ p.noted s.requires.3 s.requires.4 w g in
-    (meta-room a.text.now p.so a.n a.rows.now a.bits.now a.work.now a.d _ p.noted s.requires.3 s.requires.4 w g, omega (arith, f))
+    let f = few_trits a.text.now p.so a.n a.rows.now a.bits.now a.work.now a.d _ p.noted s.requires.3 s.requires.4 w g in
+    (meta_room a.text.now p.so a.n a.rows.now a.bits.now a.work.now a.d _ p.noted s.requires.3 s.requires.4 w g, omega (arith, f))
 
 same_length : tie.Need-same-length
 same_length c = search rules
@@ -58,7 +58,7 @@ returns-2 : tie.Need-returns-2
 returns-2 c = let s = c.before.before.before.before.before.before.before.before.before.before.before.before.before.before.before.before.before.before.before.before.before.before in let a = s.args in λ so d.
     let w = c.before.before.before.before.before.before.before.before.before.before.before.before.before.before.before.before.row_in.ensures so.meta_numbers d.metas.maps in
     let g = sym (c.before.before.before.before.before.before.before.before.before.before.before.before.before.ruled-in.ensures so _ _ d.metas d.tally w) ∙ c.before.before.before.before.before.before.before.before.before.before.before.enum_told.given.1 in
-    rw c.meta_more.ensures (meta-after a.text.now so a.n a.rows.now a.bits.now a.work.now a.d _ d s.requires.3 s.requires.4 w g _ _ _ c.before.before.before.before.before.before.before.add-meta.ensures)
+    rw c.meta_more.ensures (meta_after a.text.now so a.n a.rows.now a.bits.now a.work.now a.d _ d s.requires.3 s.requires.4 w g _ _ _ c.before.before.before.before.before.before.before.add-meta.ensures)
 
 pub note_meta_spec : {M : Type 1} → statement M
 note_meta_spec =

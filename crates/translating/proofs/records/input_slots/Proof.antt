@@ -5,7 +5,7 @@ use native.Mathlib.Omega.{arith}
 use mathlib.Core.Path.{◌∙◌, ap, sym}
 use Rattle.ground.specs.Lists.{up_from}
 use Rattle.assigning.specs.Rows.{rows_total, input_in}
-use Rattle.assigning.proofs.Laws.{Assigned, assigned_none, assign-taken, assign-bits, assign-room, assigned-more, assigned_all}
+use Rattle.assigning.proofs.Laws.{Assigned, assigned_none, assign_taken, assign_bits, assign_room, assigned_more, assigned_all}
 use Rattle.translating.proofs.Listing.{part_up}
 use borrow.Author.Rules.{rules}
 use Rattle.translating.proofs.records.input_slots.Statement.{statement}
@@ -60,13 +60,13 @@ add-number-slots : tie.Need-overflow-add-number-slots invariant-loop decreases-l
 add-number-slots c = omega (arith, c.before.before.before.before.before.loop.invariant.taken, c.before.before.before.before.before.before.before.before.requires.3)
 
 number-slots-requires : tie.Need-number-slots-requires invariant-loop decreases-loop
-number-slots-requires c κs = (omega (arith, assign-taken c.before.before.before.before.before.before.loop.invariant _ _ c.before.before.before.before.word_of.ensures.0 c.before.input-width.ensures c.before.before.before.before.before.loop-test.true, c.before.before.before.before.before.before.before.before.before.requires.3), omega (arith, c.before.before.before.before.before.before.loop.invariant.long, assign-room c.before.before.before.before.before.before.loop.invariant _ _ c.before.before.before.before.word_of.ensures.0 c.before.input-width.ensures c.before.before.before.before.before.loop-test.true, c.before.before.before.before.before.before.before.before.before.requires.2))
+number-slots-requires c κs = (omega (arith, assign_taken c.before.before.before.before.before.before.loop.invariant _ _ c.before.before.before.before.word_of.ensures.0 c.before.input-width.ensures c.before.before.before.before.before.loop-test.true, c.before.before.before.before.before.before.before.before.before.requires.3), omega (arith, c.before.before.before.before.before.before.loop.invariant.long, assign_room c.before.before.before.before.before.before.loop.invariant _ _ c.before.before.before.before.word_of.ensures.0 c.before.input-width.ensures c.before.before.before.before.before.loop-test.true, c.before.before.before.before.before.before.before.before.before.requires.2))
 
 add_start : tie.Need-overflow-add-start invariant-loop decreases-loop
-add_start c = omega (arith, assign-bits c.before.before.before.before.before.before.before.before.before.loop.invariant _ _ c.before.before.before.before.before.before.before.word_of.ensures.0 c.before.before.before.before.input-width.ensures c.before.before.before.before.before.before.before.before.loop-test.true, c.before.before.before.before.before.before.before.before.before.before.before.before.requires.2)
+add_start c = omega (arith, assign_bits c.before.before.before.before.before.before.before.before.before.loop.invariant _ _ c.before.before.before.before.before.before.before.word_of.ensures.0 c.before.before.before.before.input-width.ensures c.before.before.before.before.before.before.before.before.loop-test.true, c.before.before.before.before.before.before.before.before.before.before.before.before.requires.2)
 
 add_at : tie.Need-overflow-add-at invariant-loop decreases-loop
-add_at c = omega (arith, assign-taken c.before.before.before.before.before.before.before.before.before.loop.invariant _ _ c.before.before.before.before.before.before.before.word_of.ensures.0 c.before.before.before.before.input-width.ensures c.before.before.before.before.before.before.before.before.loop-test.true, c.before.before.before.before.before.before.before.before.before.before.before.before.requires.3)
+add_at c = omega (arith, assign_taken c.before.before.before.before.before.before.before.before.before.loop.invariant _ _ c.before.before.before.before.before.before.before.word_of.ensures.0 c.before.before.before.before.input-width.ensures c.before.before.before.before.before.before.before.before.loop-test.true, c.before.before.before.before.before.before.before.before.before.before.before.before.requires.3)
 
 add-i : tie.Need-overflow-add-i invariant-loop decreases-loop
 add-i c = search rules
@@ -75,7 +75,7 @@ loop-less : tie.Need-loop-smaller invariant-loop decreases-loop
 loop-less c = search rules
 
 loop-again : tie.Need-loop-preserved invariant-loop decreases-loop
-loop-again c = let a = c.before.before.before.before.before.before.before.before.before.before.before.before.args in let t = rows_total input_in a.n a.cells.now in assigned-more c.before.before.before.before.before.before.before.before.before.loop.invariant _ _ c.before.before.before.before.before.before.before.word_of.ensures.0 c.before.before.before.before.input-width.ensures c.before.before.before.before.before.before.before.before.loop-test.true _ (c.before.before.number-slots.ensures ∙ ap (λ (x : List ℕ). sets c.before.before.before.before.before.before.before.before.before.loop.slots c.before.before.before.before.before.before.before.before.before.loop.start x) (sym (part_up 3 t c.before.before.before.before.before.before.before.before.before.loop.at c.before.before.before.before.input-width.result (assign-taken c.before.before.before.before.before.before.before.before.before.loop.invariant _ _ c.before.before.before.before.before.before.before.word_of.ensures.0 c.before.before.before.before.input-width.ensures c.before.before.before.before.before.before.before.before.loop-test.true))))
+loop-again c = let a = c.before.before.before.before.before.before.before.before.before.before.before.before.args in let t = rows_total input_in a.n a.cells.now in assigned_more c.before.before.before.before.before.before.before.before.before.loop.invariant _ _ c.before.before.before.before.before.before.before.word_of.ensures.0 c.before.before.before.before.input-width.ensures c.before.before.before.before.before.before.before.before.loop-test.true _ (c.before.before.number-slots.ensures ∙ ap (λ (x : List ℕ). sets c.before.before.before.before.before.before.before.before.before.loop.slots c.before.before.before.before.before.before.before.before.before.loop.start x) (sym (part_up 3 t c.before.before.before.before.before.before.before.before.before.loop.at c.before.before.before.before.input-width.result (assign_taken c.before.before.before.before.before.before.before.before.before.loop.invariant _ _ c.before.before.before.before.before.before.before.word_of.ensures.0 c.before.before.before.before.input-width.ensures c.before.before.before.before.before.before.before.before.loop-test.true))))
 
 same_length : tie.Need-same-length invariant-loop decreases-loop
 same_length c = c.before.loop.invariant.long

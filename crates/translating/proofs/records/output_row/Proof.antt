@@ -9,7 +9,7 @@ use Rattle.recording.proofs.Left.{puts_nothing}
 use Rattle.valuing.proofs.Laws.{row_word, no_output}
 use Rattle.translating.specs.Translation.{output_records}
 use Rattle.translating.proofs.Counting.{length_outputs}
-use Rattle.translating.proofs.Sums.{first_at, operand-count, operand-long, operand-is, output_bits, puts_as}
+use Rattle.translating.proofs.Sums.{first_at, operand_count, operand_long, operand_is, output_bits, puts_as}
 use native.Mathlib.Omega.{arith}
 use borrow.Author.Rules.{rules}
 use Rattle.translating.proofs.records.output_row.Statement.{statement}
@@ -49,16 +49,16 @@ part-put-outputs-start : tie.Need-slice-bounds-put-outputs-start
 part-put-outputs-start c = search rules
 
 part-put-outputs-end : tie.Need-slice-bounds-put-outputs-end
-part-put-outputs-end c = let a = c.before.before.before.before.before.before.before.before.before.before.before.before.before.before.before.args in let h = first_at (held_runs a.runs.now a.trits.now) a.cells.now a.row _ _ c.before.before.before.before.before.before.word_of.ensures.0 c.before.before.before.before.before.word-of2.ensures.0 c.before.before.before.before.before.before.before.before.before.before.before.before.before.before.before.requires.2 in operand-long (held_bits a.starts.now a.slots.now) (held_runs a.runs.now a.trits.now) _ _ c.before.before.before.gather-slots.ensures (omega arith) h
+part-put-outputs-end c = let a = c.before.before.before.before.before.before.before.before.before.before.before.before.before.before.before.args in let h = first_at (held_runs a.runs.now a.trits.now) a.cells.now a.row _ _ c.before.before.before.before.before.before.word_of.ensures.0 c.before.before.before.before.before.word-of2.ensures.0 c.before.before.before.before.before.before.before.before.before.before.before.before.before.before.before.requires.2 in operand_long (held_bits a.starts.now a.slots.now) (held_runs a.runs.now a.trits.now) _ _ c.before.before.before.gather-slots.ensures (omega arith) h
 
 put-outputs-requires : tie.Need-put-outputs-requires
-put-outputs-requires c κs = let a = c.before.before.before.before.before.before.before.before.before.before.before.before.before.before.before.before.args in let h = first_at (held_runs a.runs.now a.trits.now) a.cells.now a.row _ _ c.before.before.before.before.before.before.before.word_of.ensures.0 c.before.before.before.before.before.before.word-of2.ensures.0 c.before.before.before.before.before.before.before.before.before.before.before.before.before.before.before.before.requires.2 in let e = operand-is (held_bits a.starts.now a.slots.now) (held_runs a.runs.now a.trits.now) _ _ c.before.before.before.before.gather-slots.ensures (omega arith) h in let b = output_bits (held_bits a.starts.now a.slots.now) (held_runs a.runs.now a.trits.now) a.cells.now a.row _ _ c.before.before.before.before.before.before.before.before.if1.true c.before.before.before.before.before.before.before.word_of.ensures.0 c.before.before.before.before.before.before.word-of2.ensures.0 in let l = ap length (e ∙ b) in let r = c.before.before.before.before.before.before.before.before.before.before.before.before.before.before.before.before.requires.4 in (omega (arith, l, operand-count (held_bits a.starts.now a.slots.now) (held_runs a.runs.now a.trits.now) _ _ c.before.before.before.before.gather-slots.ensures (omega arith) h, c.before.before.before.before.gather-slots.ensures.next, ap length b, h, c.before.before.before.before.before.before.before.before.before.before.before.before.before.before.before.before.requires.3), omega (arith, l, r.bytes, length_outputs (output_from (held_bits a.starts.now a.slots.now) (cell_of (held_runs a.runs.now a.trits.now) (drop (a.row * 9) a.cells.now))) a.j))
+put-outputs-requires c κs = let a = c.before.before.before.before.before.before.before.before.before.before.before.before.before.before.before.before.args in let h = first_at (held_runs a.runs.now a.trits.now) a.cells.now a.row _ _ c.before.before.before.before.before.before.before.word_of.ensures.0 c.before.before.before.before.before.before.word-of2.ensures.0 c.before.before.before.before.before.before.before.before.before.before.before.before.before.before.before.before.requires.2 in let e = operand_is (held_bits a.starts.now a.slots.now) (held_runs a.runs.now a.trits.now) _ _ c.before.before.before.before.gather-slots.ensures (omega arith) h in let b = output_bits (held_bits a.starts.now a.slots.now) (held_runs a.runs.now a.trits.now) a.cells.now a.row _ _ c.before.before.before.before.before.before.before.before.if1.true c.before.before.before.before.before.before.before.word_of.ensures.0 c.before.before.before.before.before.before.word-of2.ensures.0 in let l = ap length (e ∙ b) in let r = c.before.before.before.before.before.before.before.before.before.before.before.before.before.before.before.before.requires.4 in (omega (arith, l, operand_count (held_bits a.starts.now a.slots.now) (held_runs a.runs.now a.trits.now) _ _ c.before.before.before.before.gather-slots.ensures (omega arith) h, c.before.before.before.before.gather-slots.ensures.next, ap length b, h, c.before.before.before.before.before.before.before.before.before.before.before.before.before.before.before.before.requires.3), omega (arith, l, r.bytes, length_outputs (output_from (held_bits a.starts.now a.slots.now) (cell_of (held_runs a.runs.now a.trits.now) (drop (a.row * 9) a.cells.now))) a.j))
 
 same_length : tie.Need-same-length
 same_length c = search rules
 
 returns : tie.Need-returns
-returns c = let a = c.before.before.before.before.before.before.before.before.before.before.before.before.before.before.before.before.before.before.before.args in let h = first_at (held_runs a.runs.now a.trits.now) a.cells.now a.row _ _ c.before.before.before.before.before.before.before.before.before.before.word_of.ensures.0 c.before.before.before.before.before.before.before.before.before.word-of2.ensures.0 c.before.before.before.before.before.before.before.before.before.before.before.before.before.before.before.before.before.before.before.requires.2 in let e = operand-is (held_bits a.starts.now a.slots.now) (held_runs a.runs.now a.trits.now) _ _ c.before.before.before.before.before.before.before.gather-slots.ensures (omega arith) h in let b = output_bits (held_bits a.starts.now a.slots.now) (held_runs a.runs.now a.trits.now) a.cells.now a.row _ _ c.before.before.before.before.before.before.before.before.before.before.before.if1.true c.before.before.before.before.before.before.before.before.before.before.word_of.ensures.0 c.before.before.before.before.before.before.before.before.before.word-of2.ensures.0 in (omega (arith, c.before.before.before.before.before.before.before.gather-slots.ensures.next, ap length b), puts_as (ap (λ (x : List ℕ). output_records x a.j) (e ∙ b)) c.before.before.put-outputs.ensures)
+returns c = let a = c.before.before.before.before.before.before.before.before.before.before.before.before.before.before.before.before.before.before.before.args in let h = first_at (held_runs a.runs.now a.trits.now) a.cells.now a.row _ _ c.before.before.before.before.before.before.before.before.before.before.word_of.ensures.0 c.before.before.before.before.before.before.before.before.before.word-of2.ensures.0 c.before.before.before.before.before.before.before.before.before.before.before.before.before.before.before.before.before.before.before.requires.2 in let e = operand_is (held_bits a.starts.now a.slots.now) (held_runs a.runs.now a.trits.now) _ _ c.before.before.before.before.before.before.before.gather-slots.ensures (omega arith) h in let b = output_bits (held_bits a.starts.now a.slots.now) (held_runs a.runs.now a.trits.now) a.cells.now a.row _ _ c.before.before.before.before.before.before.before.before.before.before.before.if1.true c.before.before.before.before.before.before.before.before.before.before.word_of.ensures.0 c.before.before.before.before.before.before.before.before.before.word-of2.ensures.0 in (omega (arith, c.before.before.before.before.before.before.before.gather-slots.ensures.next, ap length b), puts_as (ap (λ (x : List ℕ). output_records x a.j) (e ∙ b)) c.before.before.put-outputs.ensures)
 
 returns-2 : tie.Need-returns-2
 unfolding output_records

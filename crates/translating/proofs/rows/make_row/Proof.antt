@@ -3,7 +3,7 @@ use mathlib.Core.Path.{refl, sym, ap, subst}
 use Rattle.cells.specs.Held.{held_runs, held_bits}
 use Rattle.cells.specs.Records.{Made}
 use Rattle.translating.specs.Sound.{Roomy}
-use Rattle.translating.proofs.Sums.{first_at, second_at, third_at, operand-long, operand-is, row_gathered, room_as, slots_as, listed_as}
+use Rattle.translating.proofs.Sums.{first_at, second_at, third_at, operand_long, operand_is, row_gathered, room_as, slots_as, listed_as}
 use borrow.Author.Rules.{rules}
 use Rattle.translating.proofs.rows.make_row.Statement.{statement}
 use Rattle.translating.proofs.rows.make_row.Tie as tie
@@ -84,7 +84,7 @@ part-make-cell-end c =
     let p5 = c.before.before.before.before.before.before.before.before.before.before.before.before.before.before.before.before.before.word_of.ensures.0 in
     let p6 = c.before.before.before.before.before.before.before.before.before.before.before.before.before.before.before.before.word-of2.ensures.0 in
     let ha = first_at (held_runs a.runs.now a.trits.now) a.cells.now a.row _ _ p5 p6 o.narrow.a in
-    operand-long (held_bits a.starts.now a.slots.now) (held_runs a.runs.now a.trits.now) _ _ c.before.before.before.before.before.before.before.before.before.before.gather-slots.ensures c.before.before.before.before.before.before.before.before.before.before.gather-slots.auto.1.1.1.1.1.1.0 ha
+    operand_long (held_bits a.starts.now a.slots.now) (held_runs a.runs.now a.trits.now) _ _ c.before.before.before.before.before.before.before.before.before.before.gather-slots.ensures c.before.before.before.before.before.before.before.before.before.before.gather-slots.auto.1.1.1.1.1.1.0 ha
 
 sub-make-cell-2 : tie.Need-overflow-sub-make-cell-2
 sub-make-cell-2 c = search rules
@@ -100,7 +100,7 @@ part-make-cell-end-2 c =
     let p6 = c.before.before.before.before.before.before.before.before.before.before.before.before.before.before.before.before.before.before.word-of2.ensures.0 in
     let p7 = c.before.before.before.before.before.before.before.before.before.before.before.before.before.before.before.before.before.word-of3.ensures.0 in
     let hb = second_at (held_runs a.runs.now a.trits.now) a.cells.now a.row _ _ _ p5 p6 p7 o.narrow.b in
-    operand-long (held_bits a.starts.now a.slots.now) (held_runs a.runs.now a.trits.now) _ _ c.before.before.before.before.before.before.before.before.gather-slots2.ensures c.before.before.before.before.before.before.before.before.gather-slots2.auto.1.1.1.1.1.1.0 hb
+    operand_long (held_bits a.starts.now a.slots.now) (held_runs a.runs.now a.trits.now) _ _ c.before.before.before.before.before.before.before.before.gather-slots2.ensures c.before.before.before.before.before.before.before.before.gather-slots2.auto.1.1.1.1.1.1.0 hb
 
 sub-make-cell-3 : tie.Need-overflow-sub-make-cell-3
 sub-make-cell-3 c = search rules
@@ -117,7 +117,7 @@ part-make-cell-end-3 c =
     let p7 = c.before.before.before.before.before.before.before.before.before.before.before.before.before.before.before.before.before.before.before.word-of3.ensures.0 in
     let p8 = c.before.before.before.before.before.before.before.before.before.before.before.before.before.before.before.before.before.before.word-of4.ensures.0 in
     let hc = third_at (held_runs a.runs.now a.trits.now) a.cells.now a.row _ _ _ _ p5 p6 p7 p8 o.narrow.c in
-    operand-long (held_bits a.starts.now a.slots.now) (held_runs a.runs.now a.trits.now) _ _ c.before.before.before.before.before.before.gather-slots3.ensures c.before.before.before.before.before.before.gather-slots3.auto.1.1.1.1.1.1.0 hc
+    operand_long (held_bits a.starts.now a.slots.now) (held_runs a.runs.now a.trits.now) _ _ c.before.before.before.before.before.before.gather-slots3.ensures c.before.before.before.before.before.before.gather-slots3.auto.1.1.1.1.1.1.0 hc
 
 make-cell-requires : tie.Need-make-cell-requires
 make-cell-requires c κs =
@@ -130,9 +130,9 @@ make-cell-requires c κs =
     let ha = first_at (held_runs a.runs.now a.trits.now) a.cells.now a.row _ _ p5 p6 o.narrow.a in
     let hb = second_at (held_runs a.runs.now a.trits.now) a.cells.now a.row _ _ _ p5 p6 p7 o.narrow.b in
     let hc = third_at (held_runs a.runs.now a.trits.now) a.cells.now a.row _ _ _ _ p5 p6 p7 p8 o.narrow.c in
-    let ea = operand-is (held_bits a.starts.now a.slots.now) (held_runs a.runs.now a.trits.now) _ _ c.before.before.before.before.before.before.before.before.before.before.before.before.before.before.before.before.before.gather-slots.ensures c.before.before.before.before.before.before.before.before.before.before.before.before.before.before.before.before.before.gather-slots.auto.1.1.1.1.1.1.0 ha in
-    let eb = operand-is (held_bits a.starts.now a.slots.now) (held_runs a.runs.now a.trits.now) _ _ c.before.before.before.before.before.before.before.before.before.before.before.before.before.gather-slots2.ensures c.before.before.before.before.before.before.before.before.before.before.before.before.before.gather-slots2.auto.1.1.1.1.1.1.0 hb in
-    let ec = operand-is (held_bits a.starts.now a.slots.now) (held_runs a.runs.now a.trits.now) _ _ c.before.before.before.before.before.before.before.before.before.gather-slots3.ensures c.before.before.before.before.before.before.before.before.before.gather-slots3.auto.1.1.1.1.1.1.0 hc in
+    let ea = operand_is (held_bits a.starts.now a.slots.now) (held_runs a.runs.now a.trits.now) _ _ c.before.before.before.before.before.before.before.before.before.before.before.before.before.before.before.before.before.gather-slots.ensures c.before.before.before.before.before.before.before.before.before.before.before.before.before.before.before.before.before.gather-slots.auto.1.1.1.1.1.1.0 ha in
+    let eb = operand_is (held_bits a.starts.now a.slots.now) (held_runs a.runs.now a.trits.now) _ _ c.before.before.before.before.before.before.before.before.before.before.before.before.before.gather-slots2.ensures c.before.before.before.before.before.before.before.before.before.before.before.before.before.gather-slots2.auto.1.1.1.1.1.1.0 hb in
+    let ec = operand_is (held_bits a.starts.now a.slots.now) (held_runs a.runs.now a.trits.now) _ _ c.before.before.before.before.before.before.before.before.before.gather-slots3.ensures c.before.before.before.before.before.before.before.before.before.gather-slots3.auto.1.1.1.1.1.1.0 hc in
     let e = row_gathered (held_runs a.runs.now a.trits.now) a.cells.now a.row (held_bits a.starts.now a.slots.now) a.k _ _ _ _ _ _ _ _ refl p5 p6 p7 p8 ea eb ec in
     (subst (λ (m : Made). Roomy a.list.now a.k m.records) (sym e) c.before.before.before.before.before.before.before.before.before.before.before.before.before.before.before.before.before.before.before.before.before.before.before.before.before.before.before.before.before.before.before.before.requires.1, room_as e c.before.before.before.before.before.before.before.before.before.before.before.before.before.before.before.before.before.before.before.before.word-of5.ensures.0 c.before.before.before.before.before.before.before.before.before.before.before.before.before.before.before.before.before.before.before.before.before.before.before.before.before.before.before.before.before.before.before.before.requires.2 (o.room (held_bits a.starts.now a.slots.now) a.k))
 
@@ -153,9 +153,9 @@ returns c =
     let ha = first_at (held_runs a.runs.now a.trits.now) a.cells.now a.row _ _ p5 p6 o.narrow.a in
     let hb = second_at (held_runs a.runs.now a.trits.now) a.cells.now a.row _ _ _ p5 p6 p7 o.narrow.b in
     let hc = third_at (held_runs a.runs.now a.trits.now) a.cells.now a.row _ _ _ _ p5 p6 p7 p8 o.narrow.c in
-    let ea = operand-is (held_bits a.starts.now a.slots.now) (held_runs a.runs.now a.trits.now) _ _ c.before.before.before.before.before.before.before.before.before.before.before.before.before.before.before.before.before.before.before.before.before.before.gather-slots.ensures c.before.before.before.before.before.before.before.before.before.before.before.before.before.before.before.before.before.before.before.before.before.before.gather-slots.auto.1.1.1.1.1.1.0 ha in
-    let eb = operand-is (held_bits a.starts.now a.slots.now) (held_runs a.runs.now a.trits.now) _ _ c.before.before.before.before.before.before.before.before.before.before.before.before.before.before.before.before.before.before.gather-slots2.ensures c.before.before.before.before.before.before.before.before.before.before.before.before.before.before.before.before.before.before.gather-slots2.auto.1.1.1.1.1.1.0 hb in
-    let ec = operand-is (held_bits a.starts.now a.slots.now) (held_runs a.runs.now a.trits.now) _ _ c.before.before.before.before.before.before.before.before.before.before.before.before.before.before.gather-slots3.ensures c.before.before.before.before.before.before.before.before.before.before.before.before.before.before.gather-slots3.auto.1.1.1.1.1.1.0 hc in
+    let ea = operand_is (held_bits a.starts.now a.slots.now) (held_runs a.runs.now a.trits.now) _ _ c.before.before.before.before.before.before.before.before.before.before.before.before.before.before.before.before.before.before.before.before.before.before.gather-slots.ensures c.before.before.before.before.before.before.before.before.before.before.before.before.before.before.before.before.before.before.before.before.before.before.gather-slots.auto.1.1.1.1.1.1.0 ha in
+    let eb = operand_is (held_bits a.starts.now a.slots.now) (held_runs a.runs.now a.trits.now) _ _ c.before.before.before.before.before.before.before.before.before.before.before.before.before.before.before.before.before.before.gather-slots2.ensures c.before.before.before.before.before.before.before.before.before.before.before.before.before.before.before.before.before.before.gather-slots2.auto.1.1.1.1.1.1.0 hb in
+    let ec = operand_is (held_bits a.starts.now a.slots.now) (held_runs a.runs.now a.trits.now) _ _ c.before.before.before.before.before.before.before.before.before.before.before.before.before.before.gather-slots3.ensures c.before.before.before.before.before.before.before.before.before.before.before.before.before.before.gather-slots3.auto.1.1.1.1.1.1.0 hc in
     let e = row_gathered (held_runs a.runs.now a.trits.now) a.cells.now a.row (held_bits a.starts.now a.slots.now) a.k _ _ _ _ _ _ _ _ refl p5 p6 p7 p8 ea eb ec in
     (listed_as (ap (λ (m : Made). m.records) e) c.before.before.before.before.make-cell.ensures.0, slots_as a.slots.now c.before.before.before.before.make-cell.ensures.1 e c.before.before.before.before.before.before.before.before.before.before.before.before.before.before.before.before.before.before.before.before.before.before.before.before.before.word-of5.ensures.0)
 

@@ -1,0 +1,54 @@
+use mathlib.Core.Path.{refl, sym, ◌∙◌}
+use native.Mathlib.Omega.{arith}
+use Rattle.saying.specs.Values.{base_bits, copies}
+use Rattle.laying.proofs.Turning.{turned_none, copies_room, copies_turn, copies_stop, copies_end, copies_nothing}
+use Rattle.cellruns.proofs.parts.add_copies.Goals as goal
+
+pub returns-then-base_width-eq0 : goal.returns-then-base_width-eq0
+returns-then-base_width-eq0 c =
+    let s = c in
+    let a = s.args in
+    copies_nothing a.text.now a.base a.count s.requires.1 (sym c.base_width.ensures ∙ c.if-base_width-eq0.true)
+
+pub loop-left-init : goal.loop-left-init
+loop-left-init c =
+    let s = c in
+    let a = s.args in
+    (refl, refl, turned_none a.first a.runs.now a.trits.now a.so (copies a.count (base_bits a.text.now a.base)))
+
+pub add_base-added-requires : goal.add_base-added-requires
+add_base-added-requires c =
+    let s = c in
+    let a = s.args in
+    let l = c.loop-left in
+    (s.requires.0, s.requires.1, copies_room a.text.now a.base a.count l.left l.invariant.2 c.loop-left-test.true s.requires.1 s.requires.2)
+
+pub shape_of-runs-in_default : goal.shape_of-runs-in_default
+shape_of-runs-in_default c =
+    omega (arith, c.loop-left.invariant.0, c.add_base-added.auto)
+
+pub shape_of-trits-in_default : goal.shape_of-trits-in_default
+shape_of-trits-in_default c =
+    omega (arith, c.loop-left.invariant.1, c.add_base-added.auto)
+
+pub returns-in_default : goal.returns-in_default
+returns-in_default c =
+    let s = c in
+    let a = s.args in
+    let l = c.loop-left in
+    copies_stop a.text.now a.base a.count l.left l.invariant.2 c.loop-left-test.true (rw c.in_default.is at c.add_base-added.ensures)
+
+pub loop-left-preserved : goal.loop-left-preserved
+loop-left-preserved c =
+    let s = c in
+    let a = s.args in
+    let l = c.loop-left in
+    let g = c.add_base-added in
+    (omega (arith, l.invariant.0, g.auto), omega (arith, l.invariant.1, g.auto), copies_turn a.text.now a.base a.count l.left l.invariant.2 c.loop-left-test.true (rw c.in-Laid.is at g.ensures))
+
+pub returns : goal.returns
+returns c =
+    let s = c in
+    let a = s.args in
+    let l = c.loop-left in
+    copies_end a.text.now a.base a.count l.left l.invariant.2 c.loop-left-test.false

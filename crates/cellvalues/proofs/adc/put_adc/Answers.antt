@@ -1,0 +1,27 @@
+use mathlib.Core.Path.{refl}
+use Prim.Native.Nat.{◌-◌}
+use native.Mathlib.Omega.{arith}
+use Rattle.cells.proofs.Filling.{start, turn, ended, full}
+use Rattle.cells.proofs.Places as places
+use Rattle.cellvalues.proofs.adc.put_adc.Goals as goal
+
+pub loop-i-init : goal.loop-i-init
+loop-i-init c = (rw c.least.ensures at c.least-n.ensures, start _ _ _)
+
+pub loop-i-preserved : goal.loop-i-preserved
+loop-i-preserved c =
+    let l = c in
+    let a = c.args in
+    (l.loop-i.invariant.0, turn l.loop-i.invariant.1 (rw (← c.carry3-carry.ensures) at (places.adc_go a.a.now a.b.now l.loop-i.i (omega (arith, l.loop-i.invariant.0)) (omega (arith, l.loop-i.invariant.0)) l.loop-i.carry)) (rw c.xor3.ensures at c.xor3-in-loop-i.ensures))
+
+pub shape_of-out-then-out-i : goal.shape_of-out-then-out-i
+shape_of-out-then-out-i c = c.loop-i.invariant.1.long
+
+pub returns-then-out-i : goal.returns-then-out-i
+returns-then-out-i c = full c.loop-i.invariant.1 (omega (arith, c.if-out-i.true, c.loop-i.invariant.1.long))
+
+pub returns : goal.returns
+returns c =
+    let l = c in
+    let a = c.args in
+    ended (turn l.loop-i.invariant.1 (places.adc_end a.a.now a.b.now l.loop-i.i (omega (arith, l.loop-i.invariant.0, l.loop-i.invariant.1.long, c.if-out-i.false, c.loop-i-test.false)) l.loop-i.carry) refl) refl

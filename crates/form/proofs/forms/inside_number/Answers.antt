@@ -1,0 +1,11 @@
+
+use Rattle.form.proofs.forms.inside_number.Goals as goal
+
+pub inside_with-requires : goal.inside_with-requires
+inside_with-requires c = c.requires
+
+pub returns-in-Refused : goal.returns-in-Refused
+returns-in-Refused c = rw (← c.inside_with.ensures, c.in-Refused.is)
+
+pub returns-in-Took : goal.returns-in-Took
+returns-in-Took c = rw (← c.inside_with.ensures, c.in-Took.is, ← c.is_sort.ensures) c.allowed.ensures

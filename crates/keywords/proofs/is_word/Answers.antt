@@ -1,0 +1,12 @@
+use Rattle.ground.specs.Text.{same}
+use Prim.Native.Nat.{ℕ}
+use mathlib.Core.List.{List}
+use mathlib.Core.Path.{◌∙◌, ap}
+use borrow.Author.Tests.{eq-eqb, ne_eqb}
+use Rattle.keywords.proofs.is_word.Goals as goal
+
+pub returns-then-token-eq3 : goal.returns-then-token-eq3
+returns-then-token-eq3 c = rw (eq-eqb _ 3 c.if-token-eq3.true) (c.same_bytes.ensures ∙ ap (λ (l : List ℕ). same l c.args.word.now) c.run_at.ensures)
+
+pub returns : goal.returns
+returns c = rw (ne_eqb _ 3 c.if-token-eq3.false)

@@ -1,0 +1,8 @@
+use Rattle.writing.proofs.Stands.{then}
+use Rattle.ground.specs.Text.{bytes}
+use Rattle.writing.specs.Words.{text}
+use Rattle.metalines.proofs.put_scope_line.Goals as goal
+
+pub returns : goal.returns
+unfolding text bytes
+returns c = then c.put_option-m.ensures c.put_option.ensures

@@ -1,0 +1,8 @@
+use Rattle.ground.proofs.Tests.{tests}
+use Rattle.quotes.proofs.hex_digit.Goals as goal
+
+pub returns-then-d-lt10 : goal.returns-then-d-lt10
+returns-then-d-lt10 c = search tests
+
+pub returns : goal.returns
+returns c = search tests

@@ -1,0 +1,9 @@
+use native.Mathlib.Omega.{arith}
+use borrow.Author.Tests.{eq-eqb, ne_eqb}
+use Rattle.spans.proofs.behind_move.Goals as goal
+
+pub returns-then-m-eq2 : goal.returns-then-m-eq2
+returns-then-m-eq2 c = rw (eq-eqb _ _ c.if-m-eq2.true) c.comment_past.ensures
+
+pub returns : goal.returns
+returns c = (rw (ne_eqb _ _ c.if-m-eq2.false), omega arith)
