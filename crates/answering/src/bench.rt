@@ -2,7 +2,7 @@
 ghost use Rattle.std.specs.Prelude.{◌≤◌};
 
 use crate::tables::refuse;
-use crate::words::{cut_short, tell_written, word_at};
+use crate::tablewords::{cut_short, tell_written, word_at};
 use evaluating::{Evaluated, evaluate};
 use loadlist::Ran;
 use running::run;

@@ -8,7 +8,7 @@ mod counts;
 mod jobs;
 mod names;
 mod tables;
-mod words;
+mod tablewords;
 
 use crate::bench::run_list;
 use crate::jobs::{Stream, told_to};

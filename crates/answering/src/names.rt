@@ -1,6 +1,6 @@
 // `names`, `pads` and `pad`: full names of idents, and the pads with their widths.
 use crate::tables::refuse;
-use crate::words::{cut_short, tell_written, word_at};
+use crate::tablewords::{cut_short, tell_written, word_at};
 use checking::lookup_io;
 use ground::Refusal;
 use naming::{Named, full_name};

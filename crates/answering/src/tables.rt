@@ -3,13 +3,13 @@ use crate::bench::eval_tables;
 use crate::counts::tell_counts;
 use crate::jobs::{Job, Stream, told_to};
 use crate::names::{tell_names, tell_pad, tell_pads};
-use crate::words::{tell_written, word_at};
+use crate::tablewords::{tell_written, word_at};
 use ground::Refusal;
 use printing::{Printed, print_text};
 use std::io;
 use std::io::Write;
 use telling::grounds::tell_refusal;
-use telling::records::tell_list;
+use telling::lists::tell_list;
 use translating::{Translated, translate};
 
 pub(crate) fn refuse<W: Write>(to: &mut W, path: &[u8], g: Refusal) -> io::Result<bool> {

@@ -1,6 +1,6 @@
 // `check`: a line for each file.
+use crate::arguments::put_arg;
 use crate::files::answer_file;
-use crate::words::put_arg;
 use answering::Job;
 use std::io;
 use std::io::Write;

@@ -1,5 +1,5 @@
 // What the arguments ask for.
-use crate::words::{put_arg, same};
+use crate::arguments::{put_arg, same};
 use answering::Job;
 use std::rt::Env;
 

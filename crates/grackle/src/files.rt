@@ -1,7 +1,7 @@
 // A file, or standard input, read whole: as many bytes as there is room for, so that one too long is seen to be too long.
 ghost use Rattle.std.specs.Prelude.{◌<◌, ◌≤◌, length};
 
-use crate::words::same;
+use crate::arguments::same;
 use answering::{Job, answer, tell_unread};
 use std::io::{Read, Write};
 use std::rt::Files;

@@ -4,17 +4,17 @@
 // line on standard output.
 #![tactic(auto)]
 
+mod arguments;
 mod checks;
 mod commands;
 mod files;
 mod help;
-mod words;
 
+use crate::arguments::{arg_count, is_option, put_arg};
 use crate::checks::check_files;
 use crate::commands::{Command, command_of};
 use crate::files::answer_file;
 use crate::help::{tell_help, tell_unknown, tell_usage};
-use crate::words::{arg_count, is_option, put_arg};
 use answering::Job;
 use std::env::FillError;
 use std::io;

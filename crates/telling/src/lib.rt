@@ -5,5 +5,5 @@
 
 pub mod bits;
 pub mod grounds;
+pub mod lists;
 pub mod names;
-pub mod records;
