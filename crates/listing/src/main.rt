@@ -3,6 +3,8 @@
 // before all has succeeded. It reads the list through the record reader. Reading, printing and translating stand below it.
 #![tactic(auto)]
 
+ghost use Rattle.std.specs.Prelude.{◌≡◌, length};
+
 use filling::read_full;
 use ground::Refusal;
 use hexlines::tell_list;
@@ -67,13 +69,19 @@ fn print_into<W: Write>(
 
 // Within the limits of Room no canonical text has 570,000 bytes: constant bits 262,158 and 131,072 in attributes; 4,096 runs of 14 bytes;
 // 16,384 string bytes of 3; and below 70,000 for the rest of 512 metadata lines, 1,024 members, 64 I/O lines and 512 cell lines.
+fn canonical_room() -> [u8; 600000]
+    ensures { 600000 ≡ length result }
+{
+    [0; 600000]
+}
+
 fn print_tables<W: Write>(
     to: &mut W,
     rows: &[u32],
     strings: &[u8],
     trits: &[u8],
 ) -> io::Result<()> {
-    let mut room = [0u8; 600000];
+    let mut room = canonical_room();
     print_into(to, rows, strings, trits, &mut room)
 }
 
