@@ -2,6 +2,7 @@
 // of when a name is taken (rule 9). It promises that each answer is the one that the rules of the netlist give of what the notes say. The
 // notes stand below it; names and reading above.
 #![tactic(auto)]
+
 pub mod refs;
 
 use ground::Place;

@@ -1,5 +1,7 @@
 // The C library's functions of the logic: an evaluation, a translation and a run, their answers told as numbers. It promises what
 // evaluating, translating and running promise.
+#![tactic(auto)]
+
 ghost use Rattle.std.specs.Prelude.{◌≡◌};
 ghost use Rattle.evaluating.specs.Outcome.{evaluate_of};
 ghost use Rattle.translating.specs.Outcome.{translate_of};

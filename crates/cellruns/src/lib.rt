@@ -2,6 +2,7 @@
 // gives, or that they need more than 4,096 rows; and it tells whether a part has no bits, which leaves no run. Joining stands below it,
 // the declarations of cells above.
 #![tactic(auto)]
+
 mod operands;
 mod parts;
 

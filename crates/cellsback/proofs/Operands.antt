@@ -148,7 +148,7 @@ module _ (text numbers widths : List ℕ) (numbered : Numbered numbers widths) w
       let q = every_first (run_sound widths) r rs p in
       let t = run_back text numbers widths numbered r q.0 (ends_more numbers widths rs s) (behind_space text k h) in
       let u = spaced text k h t.takes in
-      before text numbers widths f n r rs t.token u t.is (more_back f (n + run_width r) rs (omega arith) q.1 u.rest)
+      before text numbers widths f n r rs t.token u t.is (more_back {k = u.end} f (n + run_width r) rs (omega arith) q.1 u.rest)
 
   runs_back : {k : ℕ} {s : List ℕ} (f n : ℕ) (rs : List Run) → length rs < f → every (run_sound widths) rs ≡ true → Stands text k (runs numbers widths rs (93 ∷ s))
       → Closes text numbers widths f n k rs s

@@ -1,5 +1,7 @@
 // The C library's functions of lent tables: their check, and the lookup of a pad by its name, the answers told as numbers, with refusal
 // number 0 where nothing is refused. It promises what checking promises.
+#![tactic(auto)]
+
 ghost use Rattle.std.specs.Prelude.{◌≡◌};
 ghost use Rattle.netlist.specs.Good.{check_of, lookup_of};
 ghost use Rattle.checklib.specs.Told.{told_check, pad_of, told_pad};

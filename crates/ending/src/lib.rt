@@ -1,5 +1,7 @@
 // The end of a reading whose declarations are all noted: 14 with the place of the first piece that does not resolve, or the tables. It
 // promises what reading defines of it. Resolving and the last step stand below it, the reader above.
+#![tactic(auto)]
+
 ghost use Rattle.std.specs.Prelude.{◌≡◌, ◌≤◌, length};
 ghost use Rattle.ground.specs.Regions.{zeros};
 ghost use Rattle.reading.specs.Answers.{rows_found, FindsLost, SomeWhole, Ends};

@@ -2,6 +2,7 @@
 // place (2 for a text that is too long), is the one that the definitions of specs/ give. The rules 9 to 14 stand above it, the
 // operands and sets below.
 #![tactic(auto)]
+
 pub mod forms;
 
 use brackets::{Members, Operand, Ref, Str};

@@ -2,4 +2,5 @@
 // language has no code over any type of element, so that the slots of the same bits have their own, in slotgathering. Cells stand below it,
 // valuing above.
 #![tactic(auto)]
+
 pub mod bits;

@@ -1,6 +1,7 @@
 // The C library: the functions that callers in C name, each of which calls the function of its name in textlib, readlib, checklib, printlib
 // or benchlib. It promises what they promise.
 #![tactic(auto)]
+
 ghost use Rattle.std.specs.Prelude.{◌≡◌};
 ghost use Rattle.netlist.specs.Good.{check_of, lookup_of};
 ghost use Rattle.scanning.specs.Whole.{whole_of};

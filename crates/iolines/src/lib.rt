@@ -1,6 +1,7 @@
 // The lines of I/O. It promises that each is written as lines defines it, as far as the room goes. The tokens of the canonical text stand
 // below it, the printer above.
 #![tactic(auto)]
+
 ghost use Rattle.std.specs.Prelude.{◌≡◌, true, List, [], ◌∷◌, ℕ, ◌<◌, ◌≤◌, length};
 ghost use Rattle.netlist.specs.View.{io_in, ios_in};
 ghost use Rattle.writing.specs.Stands.{Wrote};

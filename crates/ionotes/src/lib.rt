@@ -1,5 +1,7 @@
 // Declarations of I/O: rules 9 to 13 are asked by number, and one row more is noted. It promises the refusal that the rules give, or tables
 // that note one declaration more. Noting stands below it, the loop over declarations above.
+#![tactic(auto)]
+
 ghost use Rattle.std.specs.Prelude.{◌≡◌, not, List, [], ◌∷◌, ℕ, ◌+◌, ◌*◌, ◌<◌, ◌≤◌, length};
 ghost use Rattle.std.proofs.lemmas.List.Edits.{sets};
 ghost use Rattle.netlist.specs.Netlist.{Io, Netlist};

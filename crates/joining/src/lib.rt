@@ -1,6 +1,7 @@
 // One run in the run rows: a row of three words, behind the others, or the last one made longer. It promises that the runs of an operand stay
 // the longest ones, or that one more than 4,096 would be needed. Laying stands below it, the runs of a cell's operands above.
 #![tactic(auto)]
+
 ghost use Rattle.std.specs.Prelude.{◌≡◌, List, [], ◌∷◌, ℕ, ◌+◌, ◌≤◌, length};
 ghost use Rattle.std.proofs.lemmas.List.Edits.{sets};
 ghost use Rattle.netlist.specs.Runs.{known_bits, falling};

@@ -1,6 +1,7 @@
 // The lines of metadata. It promises that each is written as lines defines it, as far as the room goes. The tokens of the canonical text
 // stand below it, the printer above.
 #![tactic(auto)]
+
 ghost use Rattle.std.specs.Prelude.{◌≡◌, true, List, [], ◌∷◌, ℕ, ◌<◌, ◌≤◌, length};
 ghost use Rattle.ground.specs.Lists.{every};
 ghost use Rattle.netlist.specs.Rules.{is_trit};

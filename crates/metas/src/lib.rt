@@ -1,6 +1,8 @@
 // Metas: a declaration of metadata, after its form: rules 9 to 13 are asked by number, and what it says is noted in the lent tables.
 // It promises the refusal that the rules give, or tables that note one declaration more. Noting, asking and laying stand below it,
 // reading above.
+#![tactic(auto)]
+
 ghost use Rattle.std.specs.Prelude.{◌≡◌, true, not, List, [], ◌∷◌, ℕ, ◌+◌, ◌*◌, ◌<◌, ◌≤◌, length, set};
 ghost use Rattle.std.proofs.lemmas.List.Edits.{sets};
 ghost use Rattle.signs.specs.Bytes.{table};

@@ -1,6 +1,7 @@
 // The mark of a name that a text says, by its kind and the bytes that it means. It promises the mark that marking gives those bytes. Names
 // taken stand beside it, the reader above.
 #![tactic(auto)]
+
 ghost use Rattle.std.specs.Prelude.{◌≡◌, ◌+◌, ◌<◌, length};
 ghost use Rattle.signs.specs.Pieces.{decoded};
 ghost use Rattle.marking.specs.Marks.{mark_of};

@@ -2,6 +2,7 @@
 // brings; and a refusal as a step of reading tells it. Asking and laying stand below it; the declarations of I/O, metadata and cells, the
 // loop over them and reading above.
 #![tactic(auto)]
+
 ghost use Rattle.std.specs.Prelude.{◌≡◌};
 ghost use Rattle.ground.specs.Refusals.{refusal};
 ghost use Rattle.noting.specs.declared.Ruling.TheVariants.{Refused};

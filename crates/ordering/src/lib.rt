@@ -1,6 +1,7 @@
 // The order of placing of the cells in lent tables, in the front of lent work space, which is left as zeros. It promises the order that
 // placing gives, and its refusal where a ring is. Placing stands below it; the evaluator and the translator above.
 #![tactic(auto)]
+
 ghost use Rattle.std.specs.Prelude.{◌≡◌};
 ghost use Rattle.ground.specs.Regions.{zeros};
 ghost use Rattle.placing.specs.InTables.{Inside, PlacedAll};

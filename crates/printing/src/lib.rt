@@ -1,6 +1,7 @@
 // Printing: the canonical text of the netlist in lent tables. It promises the text, its length and every byte of the room as the
 // definitions of specs/ give them. The check of tables stands below it, the programs above.
 #![tactic(auto)]
+
 mod good;
 
 ghost use Rattle.std.specs.Prelude.{◌≡◌, true, ◌≤◌, length};

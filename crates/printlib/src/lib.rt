@@ -1,5 +1,7 @@
 // The C library's functions of written texts: the canonical text and full names, the answers told as numbers, with refusal number 0 where
 // nothing is refused. It promises what printing and naming promise, every byte of the room included.
+#![tactic(auto)]
+
 ghost use Rattle.std.specs.Prelude.{◌≡◌};
 ghost use Rattle.printing.specs.Outcome.{print_of};
 ghost use Rattle.naming.specs.Names.{name_of};
@@ -48,12 +50,7 @@ fn tell_print(r: Printed) -> Wrote
 }
 
 // The canonical text of the netlist in three lent tables, printed into lent room: refusal 1, 15 or 24.
-pub fn grackle_print(
-    rows: &[u32],
-    strings: &[u8],
-    trits: &[u8],
-    room: &mut [u8],
-) -> Wrote
+pub fn grackle_print(rows: &[u32], strings: &[u8], trits: &[u8], room: &mut [u8]) -> Wrote
     ensures { filled result room.new ≡ printed_of (print_of rows.now strings.now trits.now room.old) }
 {
     tell_print(print_text(rows, strings, trits, room))

@@ -158,7 +158,7 @@ module _ (text : List ℕ) where
   stopped_told {k} {so} {g} (later d r e h s) (suc f) l =
       let a = took_inside text k d r e in
       let b = took_past text k d r e in
-      goes_on text k so d r e (keeps text so d h) f ∙ stopped_told s f (omega arith)
+      goes_on text k so d r e (keeps text so d h) f ∙ stopped_told {k = r.next.at} {so = added so d.index (said_by text so d.decl)} s f (omega arith)
 
   taken_told : {k : ℕ} {so more : Sofar} → Taken text k so more → (f : ℕ) → length text - k < f → declarations_from f text k so ≡ all more
   taken_told t zero l = absurd (omega arith)
@@ -166,7 +166,7 @@ module _ (text : List ℕ) where
   taken_told {k} {so} (next d r e h t) (suc f) l =
       let a = took_inside text k d r e in
       let b = took_past text k d r e in
-      goes_on text k so d r e (keeps text so d h) f ∙ taken_told t f (omega arith)
+      goes_on text k so d r e (keeps text so d h) f ∙ taken_told {k = r.next.at} {so = added so d.index (said_by text so d.decl)} t f (omega arith)
 
 -- RULE 14: the first piece that does not resolve
 abbrev first_lost : Sofar → Option Place

@@ -1,6 +1,7 @@
 // Source ranges. Document 01: "a source range has no negative number and doesn't end before it starts". It promises which ranges are bad,
 // of any numbers (rule 11). The form of declarations stands below it, the declarations of metadata above.
 #![tactic(auto)]
+
 ghost use Rattle.std.specs.Prelude.{◌≡◌, ◌&&◌, ◌||◌, ltb, eqb};
 ghost use Rattle.netlist.specs.Rules.{bad_range};
 

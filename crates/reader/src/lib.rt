@@ -1,5 +1,7 @@
 // The reader: a text into lent tables, or refusal 1 to 14 with its place. It promises, for every byte sequence and whatever is lent, the
 // answer and every lent byte, as reading defines them. The end of a reading and the loop over declarations stand below it.
+#![tactic(auto)]
+
 ghost use Rattle.std.specs.Prelude.{◌≡◌, ◌≤◌, length};
 ghost use Rattle.ground.specs.Regions.{zeros};
 ghost use Rattle.ground.specs.Refusals.{at, refusal};

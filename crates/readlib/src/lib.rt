@@ -1,5 +1,7 @@
 // The C library's function of reading: a text into three lent tables, its answer told as a number and a place, 0 and 0 where nothing is
 // refused. It promises what reading promises, every lent byte included.
+#![tactic(auto)]
+
 ghost use Rattle.std.specs.Prelude.{◌≡◌};
 ghost use Rattle.reading.specs.Outcome.{read_of};
 ghost use Rattle.readlib.specs.Seen.{told_read, seen, seen_of};

@@ -1,6 +1,7 @@
 // Resolving: when all declarations are noted, whether each piece of the text resolves (14). It promises the place of the first piece that
 // does not, zero-width and zero-times ones included. Saying stands below it, reading above.
 #![tactic(auto)]
+
 ghost use Rattle.std.specs.Prelude.{◌≡◌, ◌≤◌, length};
 ghost use Rattle.brackets.specs.Parts.{parts_at};
 ghost use Rattle.saying.specs.Pieces.{base_in};

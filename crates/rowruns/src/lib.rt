@@ -1,5 +1,7 @@
 // The author's cell numbers in the run rows become rows, when all declarations are noted. It promises each row's first word, and that
 // nothing else is changed. Resolving, with the definitions of it, stands below; the last step of reading above.
+#![tactic(auto)]
+
 ghost use Rattle.std.specs.Prelude.{◌≡◌};
 ghost use Rattle.resolving.specs.Resolving.{row_word, RunsNumbered, RowsRuns};
 

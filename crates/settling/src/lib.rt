@@ -1,6 +1,7 @@
 // Settling: when all of a text is read, the notes of its rows become the rows of docs/LAYOUT.md: every start is filled in, and the
 // strings are laid one behind the other in the order of the canonical text. Saying stands below it, reading above.
 #![tactic(auto)]
+
 ghost use Rattle.std.specs.Prelude.{◌≡◌, List, ℕ, ◌+◌, ◌*◌, ◌<◌, ◌≤◌, length, get_or, set};
 ghost use Rattle.std.proofs.lemmas.List.Edits.{sets};
 ghost use Rattle.saying.specs.Notes.{spelled};

@@ -1,6 +1,7 @@
 // The slots of an operand's bits, gathered from its runs with bit 0 first, as the bits themselves are. A constant's slots are its trits:
 // slots 0, 1, 2 hold 0, 1, X. It promises them for whatever is lent, every lent byte included. Cells stand below it, the translator above.
 #![tactic(auto)]
+
 ghost use Rattle.std.specs.Prelude.{◌≡◌, List, reverse, ℕ, ◌+◌, ◌-◌, ◌*◌, ◌<◌, ◌≤◌, min, drop, get_or};
 ghost use Rattle.ground.specs.Regions.{part};
 ghost use Rattle.ground.specs.Writes.{Put};

@@ -1,6 +1,7 @@
 // Taken: whether a name is taken among the rows noted so far, by its decoded bytes (rule 9). It promises the answers that the rules of the
 // netlist give of what the notes say. The steps of reading stand above it.
 #![tactic(auto)]
+
 ghost use Rattle.std.specs.Prelude.{◌≡◌, List, ◌+◌, ◌*◌, ◌<◌, ◌≤◌, length, drop, get_or};
 ghost use Rattle.ground.specs.Lists.{joined};
 ghost use Rattle.ground.specs.Regions.{pad};

@@ -1,6 +1,7 @@
 // The C library's functions of texts: the whole text and the count of its tokens, their answers told as numbers, with refusal number 0
 // where nothing is refused. It promises what scanning and lexis promise.
 #![tactic(auto)]
+
 ghost use Rattle.std.specs.Prelude.{◌≡◌, ◌+◌, ◌≤◌, length};
 ghost use Rattle.signs.specs.Bytes.{table};
 ghost use Rattle.scanning.specs.Whole.{whole_of};

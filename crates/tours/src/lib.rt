@@ -1,6 +1,7 @@
 // Tours: the members of a set again, one a step, for whoever builds their rows, in a text of any length. It promises that step by step
 // they are the members that the definitions of brackets give. Reading stands above it.
 #![tactic(auto)]
+
 ghost use Rattle.std.specs.Prelude.{◌≡◌, ◌<◌};
 ghost use Rattle.signs.specs.Bytes.{table};
 ghost use Rattle.brackets.specs.Walks.{tour_at, tour_on, tour_step};

@@ -1,5 +1,7 @@
 // Translating: a netlist in lent tables to its load list. It promises the records that the definitions of specs/ give, their number,
 // each refusal, and every lent byte, for whatever the tables hold. Recording, placing and the load list stand below it, the programs above.
+#![tactic(auto)]
+
 mod operands;
 mod records;
 mod rows;

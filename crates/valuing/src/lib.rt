@@ -1,6 +1,7 @@
 // Valuing: the value of a cell's row of tables, worked out from the values so far and put where the row's bits begin; and the bits of an
 // output's row. The values of cells and the places of bits stand below it, evaluating above.
 #![tactic(auto)]
+
 ghost use Rattle.std.specs.Prelude.{◌≡◌, List, ℕ, ◌+◌, ◌*◌, ◌<◌, ◌≤◌, length, take, drop, get_or};
 ghost use Rattle.std.proofs.lemmas.List.Edits.{sets};
 ghost use Rattle.ground.specs.Writes.{Put};

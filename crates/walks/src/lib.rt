@@ -2,6 +2,7 @@
 // definitions of brackets give. It asks for no table of classes, since a walk comes only where a piece may not resolve or a part has no
 // bits. Resolving stands above it.
 #![tactic(auto)]
+
 ghost use Rattle.std.specs.Prelude.{◌≡◌, ◌<◌};
 ghost use Rattle.brackets.specs.Walks.{walk_from, walk_of, walk_on, walk_step};
 

@@ -1,6 +1,8 @@
 // Wiring: a declaration of a cell, after its form: rules 9 to 13 are asked by number, then its runs, its row, the places of its
 // operands and its number are noted in the lent tables. It promises the refusal that the rules give, or tables that note one
 // declaration more. Noting, asking and laying stand below it, reading above.
+#![tactic(auto)]
+
 ghost use Rattle.std.specs.Prelude.{◌≡◌, true, false, not, ◌&&◌, ◌||◌, List, [], ◌∷◌, ℕ, ◌+◌, ◌*◌, ◌<◌, ◌≤◌, length, set};
 ghost use Rattle.std.proofs.lemmas.List.Edits.{sets};
 ghost use Rattle.signs.specs.Bytes.{table};

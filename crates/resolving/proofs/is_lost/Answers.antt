@@ -1,4 +1,3 @@
-
 use Rattle.resolving.proofs.is_lost.Goals as goal
 
 pub returns-then-resolves : goal.returns-then-resolves

@@ -1,4 +1,3 @@
-
 use Rattle.settling.proofs.settle_io.Goals as goal
 
 pub returns : goal.returns

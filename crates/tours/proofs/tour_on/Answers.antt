@@ -1,4 +1,3 @@
-
 use Rattle.tours.proofs.tour_on.Goals as goal
 
 pub returns-in-Took : goal.returns-in-Took

@@ -1,4 +1,3 @@
-
 use Rattle.walks.proofs.walk_from.Goals as goal
 
 pub returns-then-is_part : goal.returns-then-is_part

@@ -1,4 +1,3 @@
-
 use Rattle.walks.proofs.walk_on.Goals as goal
 
 pub returns-in-Took : goal.returns-in-Took

@@ -1,4 +1,3 @@
-
 use Rattle.asking.proofs.refs.allows.Goals as goal
 
 pub returns-in-Any : goal.returns-in-Any

@@ -1,4 +1,3 @@
-
 use Rattle.asking.proofs.refs.ref_row.Goals as goal
 
 pub returns-then-r : goal.returns-then-r

@@ -1,4 +1,3 @@
-
 use Rattle.cellruns.proofs.operands.or_bare.Goals as goal
 
 pub returns : goal.returns

@@ -1,4 +1,3 @@
-
 use Rattle.cellruns.proofs.operands.or_none.Goals as goal
 
 pub returns-then-bare : goal.returns-then-bare

@@ -1,4 +1,3 @@
-
 use Rattle.cellruns.proofs.parts.add_base.Goals as goal
 
 pub add_constant-requires : goal.add_constant-requires

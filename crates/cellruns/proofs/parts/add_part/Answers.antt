@@ -1,4 +1,3 @@
-
 use Rattle.cellruns.proofs.parts.add_part.Goals as goal
 
 pub add_base-requires : goal.add_base-requires

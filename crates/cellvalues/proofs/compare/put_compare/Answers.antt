@@ -1,4 +1,3 @@
-
 use Rattle.cellvalues.proofs.compare.put_compare.Goals as goal
 
 pub returns : goal.returns

@@ -1,4 +1,3 @@
-
 use Rattle.form.proofs.forms.allowed.Goals as goal
 
 pub returns-then-ok : goal.returns-then-ok

@@ -1,4 +1,3 @@
-
 use Rattle.form.proofs.forms.closing_at.Goals as goal
 
 pub inside_with-requires : goal.inside_with-requires

@@ -1,4 +1,3 @@
-
 use Rattle.form.proofs.forms.ended_by.Goals as goal
 
 pub sort_at-requires : goal.sort_at-requires

@@ -1,4 +1,3 @@
-
 use Rattle.form.proofs.forms.inside_number.Goals as goal
 
 pub inside_with-requires : goal.inside_with-requires

@@ -1,4 +1,3 @@
-
 use Rattle.form.proofs.forms.is_opening.Goals as goal
 
 pub returns-then-is_sort : goal.returns-then-is_sort

@@ -1,4 +1,3 @@
-
 use Rattle.form.proofs.forms.is_payload.Goals as goal
 
 pub returns-then-is_alone : goal.returns-then-is_alone

@@ -1,4 +1,3 @@
-
 use Rattle.form.proofs.forms.link_from.Goals as goal
 
 pub sort_at-requires : goal.sort_at-requires

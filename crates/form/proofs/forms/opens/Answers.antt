@@ -1,4 +1,3 @@
-
 use Rattle.form.proofs.forms.opens.Goals as goal
 
 pub returns-then-is_sort : goal.returns-then-is_sort

@@ -1,4 +1,3 @@
-
 use Rattle.form.proofs.forms.payload_at.Goals as goal
 
 pub next_with-requires : goal.next_with-requires

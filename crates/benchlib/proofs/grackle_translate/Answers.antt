@@ -1,0 +1,6 @@
+use mathlib.Core.Path.{ap}
+use Rattle.benchlib.specs.Logic.{after_translation}
+use Rattle.benchlib.proofs.grackle_translate.Goals as goal
+
+pub returns : goal.returns
+returns c = rw c.tell_translation.ensures (ap after_translation c.translate.ensures)

@@ -1,0 +1,8 @@
+use mathlib.Core.Path.{ap}
+use Rattle.metas.specs.MetaRows.{wrote}
+use Rattle.ground.specs.Regions.{part}
+use Rattle.metas.proofs.add_trits.Goals as goal
+
+pub returns : goal.returns
+unfolding part
+returns c = let s = c in let a = s.args in ap (wrote 0 131072 a.bits.now) c.put_trits.ensures

@@ -1,0 +1,8 @@
+use mathlib.Core.Path.{sym, ◌∙◌}
+use Rattle.metas.proofs.misnaming_of.Goals as goal
+
+pub returns-then-misnames : goal.returns-then-misnames
+returns-then-misnames c = λ ns numbers m l t h. rw (sym (c.misnames.ensures.1 ns numbers m l t h) ∙ c.if-misnames.true)
+
+pub returns : goal.returns
+returns c = λ ns numbers m l t h. rw (sym (c.misnames.ensures.1 ns numbers m l t h) ∙ c.if-misnames.false)

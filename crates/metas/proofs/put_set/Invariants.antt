@@ -1,0 +1,15 @@
+use Rattle.metas.specs.MetaRows.{rows_of}
+use Rattle.saying.specs.Notes.{Maps}
+use Rattle.brackets.specs.Walks.{members_left}
+use lib.Seq.{sets}
+use lib.ListN.{length}
+use mathlib.Core.Path.{◌≡◌}
+use mathlib.Core.List.{List}
+use Prim.Native.Nat.{ℕ, ◌+◌, ◌≤◌}
+use Rattle.metas.proofs.put_set.Given as goal
+
+abbrev pub invariant-loop-tour : goal.invariant-loop-tour
+invariant-loop-tour l = (length l.pool ≡ length l.initial.pool) × (l.to + length (members_left l.text l.tour) ≤ length l.initial.pool) × ((ns : List ℕ) → Maps ns l.map → sets l.pool l.to (rows_of ns (members_left l.text l.tour)) ≡ sets l.initial.pool l.initial.to (rows_of ns (members_left l.text l.initial.tour)))
+
+abbrev pub decreases-loop-tour : goal.decreases-loop-tour
+decreases-loop-tour l = l.tour.left
