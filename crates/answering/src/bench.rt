@@ -2,29 +2,42 @@
 ghost use Rattle.std.specs.Prelude.{◌≤◌};
 
 use crate::tables::refuse;
-use crate::words::{tell_written, word_at};
+use crate::tablewords::{cut_short, tell_written, word_at};
 use evaluating::{Evaluated, evaluate};
-use libc::{STDERR_FILENO, STDOUT_FILENO};
 use loadlist::Ran;
 use running::run;
+use std::io;
+use std::io::Write;
 use telling::bits::{put_bits, tell_bits};
 use telling::names::tell_name;
 
-fn give_bits(bits: &[u8], n: usize) -> bool {
-    tell_written(tell_bits(STDOUT_FILENO, bits, 0, n));
-    true
+fn give_bits<O: Write, E: Write>(
+    out: &mut O,
+    err: &mut E,
+    bits: &[u8],
+    n: usize,
+) -> io::Result<bool> {
+    let written = tell_bits(out, bits, 0, n);
+    tell_written(err, written)?;
+    Ok(true)
 }
 
 // A load list's outputs have no names.
-pub(crate) fn run_list(path: &[u8], list: &[u8], word: &[u8]) -> bool {
+pub(crate) fn run_list<O: Write, E: Write>(
+    out: &mut O,
+    err: &mut E,
+    path: &[u8],
+    list: &[u8],
+    word: &[u8],
+) -> io::Result<bool> {
     let mut ins = [0u8; 8193];
     let mut outs = [0u8; 8192];
     let mut work = [0u8; 8192];
     let n = put_bits(word, &mut ins);
     let r = run(list, &ins[0..n], &mut outs, &mut work);
     match r {
-        Ran::Outputs(k) => give_bits(&outs, k),
-        Ran::Refused(g) => refuse(STDERR_FILENO, path, g),
+        Ran::Outputs(k) => give_bits(out, err, &outs, k),
+        Ran::Refused(g) => refuse(err, path, g),
     }
 }
 
@@ -74,28 +87,38 @@ fn output_bits(rows: &[u32], row: usize) -> usize {
     0
 }
 
-fn tell_cell_name(rows: &[u32], strings: &[u8], row: usize) -> bool {
+fn tell_cell_name<O: Write>(
+    out: &mut O,
+    rows: &[u32],
+    strings: &[u8],
+    row: usize,
+) -> io::Result<()> {
     let start = cell_word(rows, row, 2);
     let size = cell_word(rows, row, 3);
     if start <= strings.len() {
         if size <= strings.len() - start {
-            return tell_name(STDOUT_FILENO, &strings[start..start + size]);
+            return tell_name(out, &strings[start..start + size]);
         }
     }
-    false
+    cut_short()
 }
 
 // The line of an output: its name and its bits. Other cells have none.
-fn tell_row(rows: &[u32], strings: &[u8], row: usize, bits: &[u8], at: usize, n: usize) -> bool {
+fn tell_row<O: Write>(
+    out: &mut O,
+    rows: &[u32],
+    strings: &[u8],
+    row: usize,
+    bits: &[u8],
+    at: usize,
+    n: usize,
+) -> io::Result<()> {
     if n == 0 {
-        return true;
+        return Ok(());
     }
-    if tell_cell_name(rows, strings, row) {
-        if io::write_all(STDOUT_FILENO, b" ") {
-            return tell_bits(STDOUT_FILENO, bits, at, n);
-        }
-    }
-    false
+    tell_cell_name(out, rows, strings, row)?;
+    out.write_all(b" ")?;
+    tell_bits(out, bits, at, n)
 }
 
 // The place behind n bits; all outputs together have 4,096 at most.
@@ -108,49 +131,66 @@ fn behind(at: usize, n: usize) -> usize {
     at
 }
 
-// The outputs by row, each behind the bits of those before; whether all were written.
-fn tell_outputs(rows: &[u32], strings: &[u8], bits: &[u8]) -> bool {
+// The outputs by row, each behind the bits of those before.
+fn tell_outputs<O: Write>(
+    out: &mut O,
+    rows: &[u32],
+    strings: &[u8],
+    bits: &[u8],
+) -> io::Result<()> {
     let mut at: usize = 0;
-    let mut row: usize = 0;
-    while row < 512 {
+    for row in 0..512 {
         let n = output_bits(rows, row);
-        if tell_row(rows, strings, row, bits, at, n) {
-            at = behind(at, n);
-            row += 1;
-        } else {
-            return false;
-        }
+        tell_row(out, rows, strings, row, bits, at, n)?;
+        at = behind(at, n);
     }
-    true
+    Ok(())
 }
 
-fn give_outputs(rows: &[u32], strings: &[u8], bits: &[u8]) -> bool {
-    tell_written(tell_outputs(rows, strings, bits));
-    true
+fn give_outputs<O: Write, E: Write>(
+    out: &mut O,
+    err: &mut E,
+    rows: &[u32],
+    strings: &[u8],
+    bits: &[u8],
+) -> io::Result<bool> {
+    let written = tell_outputs(out, rows, strings, bits);
+    tell_written(err, written)?;
+    Ok(true)
 }
 
-fn give(rows: &[u32], strings: &[u8], bits: &[u8], n: usize, named: bool) -> bool {
+fn give<O: Write, E: Write>(
+    out: &mut O,
+    err: &mut E,
+    rows: &[u32],
+    strings: &[u8],
+    bits: &[u8],
+    n: usize,
+    named: bool,
+) -> io::Result<bool> {
     if named {
-        return give_outputs(rows, strings, bits);
+        return give_outputs(out, err, rows, strings, bits);
     }
-    give_bits(bits, n)
+    give_bits(out, err, bits, n)
 }
 
-pub(crate) fn eval_tables(
+pub(crate) fn eval_tables<O: Write, E: Write>(
+    out: &mut O,
+    err: &mut E,
     path: &[u8],
     rows: &[u32],
     strings: &[u8],
     trits: &[u8],
     word: &[u8],
     named: bool,
-) -> bool {
+) -> io::Result<bool> {
     let mut ins = [0u8; 8193];
     let mut outs = [0u8; 4096];
     let mut work = [0u32; 8192];
     let n = put_bits(word, &mut ins);
     let r = evaluate(rows, strings, trits, &ins[0..n], &mut outs, &mut work);
     match r {
-        Evaluated::Outputs(k) => give(rows, strings, &outs, k, named),
-        Evaluated::Refused(g) => refuse(STDERR_FILENO, path, g),
+        Evaluated::Outputs(k) => give(out, err, rows, strings, &outs, k, named),
+        Evaluated::Refused(g) => refuse(err, path, g),
     }
 }

@@ -1,6 +1,4 @@
 // What is asked of a file.
-use libc::{STDERR_FILENO, STDOUT_FILENO};
-
 #[derive(Clone, Copy)]
 pub enum Job {
     Check,
@@ -15,10 +13,17 @@ pub enum Job {
     Pad,
 }
 
+// Standard output, or standard error.
+#[derive(Clone, Copy)]
+pub(crate) enum Stream {
+    Output,
+    Error,
+}
+
 // Where what is refused is told: the lines of a check are its answer.
-pub(crate) fn told_to(job: Job) -> i32 {
+pub(crate) fn told_to(job: Job) -> Stream {
     match job {
-        Job::Check => STDOUT_FILENO,
-        _ => STDERR_FILENO,
+        Job::Check => Stream::Output,
+        _ => Stream::Error,
     }
 }

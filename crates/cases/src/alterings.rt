@@ -11,11 +11,12 @@ use crate::telling::tell_unless;
 use checking::{check_tables, lookup_io};
 use finding::find;
 use ground::{Place, Refusal};
-use libc::STDOUT_FILENO;
 use netlist::{Checked, Found};
 use printing::{Printed, print_text};
 use reader::read_text;
 use reading::Read;
+use std::io;
+use std::io::Write;
 use tellrefused::tell_refused;
 use worked::put_text;
 
@@ -88,35 +89,42 @@ fn looks_up(r: Found) -> bool {
     }
 }
 
-fn tell_bad(g: Refusal, rows: &[u32], strings: &[u8], trits: &[u8]) {
-    tell_refused(g);
-    tell_refusals(g, rows, strings, trits);
+fn tell_bad<W: Write>(
+    to: &mut W,
+    g: Refusal,
+    rows: &[u32],
+    strings: &[u8],
+    trits: &[u8],
+) -> io::Result<()> {
+    tell_refused(to, g)?;
+    tell_refusals(to, g, rows, strings, trits)
 }
 
 // Rows one word short are refused 1 at 0.
-fn tell_short(rows: &[u32], strings: &[u8], trits: &[u8]) {
+fn tell_short<W: Write>(to: &mut W, rows: &[u32], strings: &[u8], trits: &[u8]) -> io::Result<()> {
     if 26306 <= rows.len() {
         let place = Place { at: 0 };
         let g = Refusal { number: 1, place };
-        tell_refusals(g, &rows[0..26306], strings, trits);
+        tell_refusals(to, g, &rows[0..26306], strings, trits)?;
     }
+    Ok(())
 }
 
-fn tell_good(rows: &[u32], strings: &[u8], trits: &[u8]) {
+fn tell_good<W: Write>(to: &mut W, rows: &[u32], strings: &[u8], trits: &[u8]) -> io::Result<()> {
     let mut room = [7u8; 65536];
-    io::write_all(STDOUT_FILENO, b"good");
+    to.write_all(b"good")?;
     let r = print_text(rows, strings, trits, &mut room);
-    tell_unless(prints(r), b" (not printed)");
+    tell_unless(to, prints(r), b" (not printed)")?;
     let f = lookup_io(rows, strings, trits, b"a");
-    tell_unless(looks_up(f), b" (not looked up)");
-    tell_short(rows, strings, trits);
+    tell_unless(to, looks_up(f), b" (not looked up)")?;
+    tell_short(to, rows, strings, trits)
 }
 
-fn tell_check(rows: &[u32], strings: &[u8], trits: &[u8]) {
+fn tell_check<W: Write>(to: &mut W, rows: &[u32], strings: &[u8], trits: &[u8]) -> io::Result<()> {
     let r = check_tables(rows, strings, trits);
     match r {
-        Checked::Refused(g) => tell_bad(g, rows, strings, trits),
-        Checked::Good => tell_good(rows, strings, trits),
+        Checked::Refused(g) => tell_bad(to, g, rows, strings, trits),
+        Checked::Good => tell_good(to, rows, strings, trits),
     }
 }
 
@@ -128,34 +136,39 @@ fn is_refused(r: Read, number: u8) -> bool {
 }
 
 // Reading in work space one word short is refused 1 at 0, and nothing is written.
-fn tell_narrow(text: &[u8]) {
+fn tell_narrow<W: Write>(to: &mut W, text: &[u8]) -> io::Result<()> {
     let mut rows = lent_rows();
     let mut strings = lent_strings();
     let mut trits = lent_trits();
     let mut work = short_work();
     let r = read_text(text, &mut rows, &mut strings, &mut trits, &mut work);
-    tell_unless(is_refused(r, 1), b" (read in short work space)");
-    tell_unless(lent(&rows), b" (rows beside short work space are changed)");
-    tell_unless(lent(&work), b" (short work space is changed)");
+    tell_unless(to, is_refused(r, 1), b" (read in short work space)")?;
+    tell_unless(
+        to,
+        lent(&rows),
+        b" (rows beside short work space are changed)",
+    )?;
+    tell_unless(to, lent(&work), b" (short work space is changed)")
 }
 
-fn tell_altered(alterations: &[u8], text: &[u8]) {
+fn tell_altered<W: Write>(to: &mut W, alterations: &[u8], text: &[u8]) -> io::Result<()> {
     let mut rows = lent_rows();
     let mut strings = lent_strings();
     let mut trits = lent_trits();
     let mut work = lent_work();
     let r = read_text(text, &mut rows, &mut strings, &mut trits, &mut work);
-    tell_unless(accepted(r), b"not read: ");
+    tell_unless(to, accepted(r), b"not read: ")?;
     alter(alterations, &mut rows, &mut strings, &mut trits);
-    tell_check(&rows, &strings, &trits);
+    tell_check(to, &rows, &strings, &trits)
 }
 
-pub(crate) fn tell_line(line: &[u8]) {
+pub(crate) fn tell_line<W: Write>(to: &mut W, line: &[u8]) -> io::Result<()> {
     let mut room = text_room();
     let bar = find(line, 0, 124);
     if bar < line.len() {
         let n = put_text(&line[bar + 1..line.len()], &mut room);
-        tell_altered(&line[0..bar], &room[0..n]);
-        tell_narrow(&room[0..n]);
+        tell_altered(to, &line[0..bar], &room[0..n])?;
+        tell_narrow(to, &room[0..n])?;
     }
+    Ok(())
 }

@@ -3,6 +3,8 @@ ghost use Rattle.std.specs.Prelude.{◌≤◌, length};
 
 use crate::rooms::byte_at;
 use crate::telling::tell_one;
+use std::io;
+use std::io::Write;
 
 fn bit_of(b: u8) -> u8 {
     if b == 48 {
@@ -45,10 +47,11 @@ pub(crate) fn put_bits(letters: &[u8], end: usize, room: &mut [u8]) -> usize
     i
 }
 
-pub(crate) fn tell_bits(bits: &[u8], n: usize) {
+pub(crate) fn tell_bits<W: Write>(to: &mut W, bits: &[u8], n: usize) -> io::Result<()> {
     let mut i: usize = 0;
     while i < n {
-        tell_one(letter_of(byte_at(bits, i)));
+        tell_one(to, letter_of(byte_at(bits, i)))?;
         i += 1;
     }
+    Ok(())
 }

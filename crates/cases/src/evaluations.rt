@@ -10,6 +10,8 @@ use evaluating::{Evaluated, evaluate};
 use finding::find;
 use reader::read_text;
 use reading::Read;
+use std::io;
+use std::io::Write;
 use tellrefused::tell_refused;
 use worked::put_text;
 
@@ -44,73 +46,112 @@ fn evaluate_part(
 }
 
 // A room just as long as the answer takes it.
-fn tell_exact(rows: &[u32], strings: &[u8], trits: &[u8], ins: &[u8], bits: &[u8], n: usize) {
+fn tell_exact<W: Write>(
+    to: &mut W,
+    rows: &[u32],
+    strings: &[u8],
+    trits: &[u8],
+    ins: &[u8],
+    bits: &[u8],
+    n: usize,
+) -> io::Result<()> {
     let mut room = [7u8; 4100];
     let r = evaluate_part(rows, strings, trits, ins, &mut room, n);
-    tell_unless(gives(r, n), b" (not in a room just as long)");
+    tell_unless(to, gives(r, n), b" (not in a room just as long)")?;
     tell_unless(
+        to,
         same_bytes(&room, bits, n),
         b" (other bits in a room just as long)",
-    );
-    tell_unless(kept(&room, n), b" (past a room just as long)");
+    )?;
+    tell_unless(to, kept(&room, n), b" (past a room just as long)")
 }
 
 // A room one byte short is refused 24 at 0, and nothing is written.
-fn tell_short(rows: &[u32], strings: &[u8], trits: &[u8], ins: &[u8], n: usize) {
+fn tell_short<W: Write>(
+    to: &mut W,
+    rows: &[u32],
+    strings: &[u8],
+    trits: &[u8],
+    ins: &[u8],
+    n: usize,
+) -> io::Result<()> {
     if n == 0 {
-        return;
+        return Ok(());
     }
     let mut room = [7u8; 4100];
     let r = evaluate_part(rows, strings, trits, ins, &mut room, n - 1);
     tell_unless(
+        to,
         is_refused(r, 24),
         b" (in a room one byte short not refused 24 at 0)",
-    );
-    tell_unless(kept(&room, 0), b" (a room one byte short is changed)");
+    )?;
+    tell_unless(to, kept(&room, 0), b" (a room one byte short is changed)")
 }
 
-fn tell_outputs(rows: &[u32], strings: &[u8], trits: &[u8], ins: &[u8], room: &[u8], n: usize) {
-    tell_bits(room, n);
-    tell_unless(kept(room, n), b" (past the answer)");
-    tell_exact(rows, strings, trits, ins, room, n);
-    tell_short(rows, strings, trits, ins, n);
+fn tell_outputs<W: Write>(
+    to: &mut W,
+    rows: &[u32],
+    strings: &[u8],
+    trits: &[u8],
+    ins: &[u8],
+    room: &[u8],
+    n: usize,
+) -> io::Result<()> {
+    tell_bits(to, room, n)?;
+    tell_unless(to, kept(room, n), b" (past the answer)")?;
+    tell_exact(to, rows, strings, trits, ins, room, n)?;
+    tell_short(to, rows, strings, trits, ins, n)
 }
 
 // The room is longer than every answer: outputs have 4,096 bits in all.
-fn tell_tables(ins: &[u8], rows: &[u32], strings: &[u8], trits: &[u8]) {
+fn tell_tables<W: Write>(
+    to: &mut W,
+    ins: &[u8],
+    rows: &[u32],
+    strings: &[u8],
+    trits: &[u8],
+) -> io::Result<()> {
     let mut room = [7u8; 4100];
     let mut work = [7u32; 8193];
     let r = evaluate(rows, strings, trits, ins, &mut room, &mut work);
     match r {
-        Evaluated::Refused(g) => tell_unwritten(g, &room),
-        Evaluated::Outputs(n) => tell_outputs(rows, strings, trits, ins, &room, n),
+        Evaluated::Refused(g) => tell_unwritten(to, g, &room)?,
+        Evaluated::Outputs(n) => tell_outputs(to, rows, strings, trits, ins, &room, n)?,
     }
-    tell_unless(clear(&work, 8192), b" (work space is not clear)");
+    tell_unless(to, clear(&work, 8192), b" (work space is not clear)")
 }
 
-fn tell_answer(r: Read, ins: &[u8], rows: &[u32], strings: &[u8], trits: &[u8]) {
+fn tell_answer<W: Write>(
+    to: &mut W,
+    r: Read,
+    ins: &[u8],
+    rows: &[u32],
+    strings: &[u8],
+    trits: &[u8],
+) -> io::Result<()> {
     match r {
-        Read::Refused(g) => tell_refused(g),
-        Read::Accepted => tell_tables(ins, rows, strings, trits),
+        Read::Refused(g) => tell_refused(to, g),
+        Read::Accepted => tell_tables(to, ins, rows, strings, trits),
     }
 }
 
-fn tell_text(ins: &[u8], text: &[u8]) {
+fn tell_text<W: Write>(to: &mut W, ins: &[u8], text: &[u8]) -> io::Result<()> {
     let mut rows = lent_rows();
     let mut strings = lent_strings();
     let mut trits = lent_trits();
     let mut work = lent_work();
     let r = read_text(text, &mut rows, &mut strings, &mut trits, &mut work);
-    tell_answer(r, ins, &rows, &strings, &trits);
+    tell_answer(to, r, ins, &rows, &strings, &trits)
 }
 
-pub(crate) fn tell_line(line: &[u8]) {
+pub(crate) fn tell_line<W: Write>(to: &mut W, line: &[u8]) -> io::Result<()> {
     let mut room = text_room();
     let mut ins = [0u8; 5000];
     let k = put_bits(line, find(line, 0, 32), &mut ins);
     let bar = find(line, 0, 124);
     if bar < line.len() {
         let n = put_text(&line[bar + 1..line.len()], &mut room);
-        tell_text(&ins[0..k], &room[0..n]);
+        tell_text(to, &ins[0..k], &room[0..n])?;
     }
+    Ok(())
 }

@@ -4,18 +4,18 @@ use finding::find;
 use form::Form;
 use ground::Place;
 use lexis::Reader;
-use libc::STDOUT_FILENO;
 use scanning::Whole;
+use std::io;
+use std::io::Write;
 use tellrefused::tell_refused;
 use worked::put_text;
 
-fn tell_found(count: usize) {
-    io::write_all(STDOUT_FILENO, b"ok ");
-    io::print_decimal(STDOUT_FILENO, count as u64);
+fn tell_found<W: Write>(to: &mut W, count: usize) -> io::Result<()> {
+    write!(to, "ok {count}")
 }
 
 // The declarations one after another; each takes a byte at least.
-fn tell_declarations(text: &[u8]) {
+fn tell_declarations<W: Write>(to: &mut W, text: &[u8]) -> io::Result<()> {
     let mut reader = Reader {
         next: Place { at: 0 },
     };
@@ -27,29 +27,27 @@ fn tell_declarations(text: &[u8]) {
                 reader = r;
             }
             Form::End => {
-                tell_found(count);
-                return;
+                return tell_found(to, count);
             }
             Form::Refused(g) => {
-                tell_refused(g);
-                return;
+                return tell_refused(to, g);
             }
         }
         count += 1;
         left -= 1;
     }
-    tell_found(count);
+    tell_found(to, count)
 }
 
-fn tell(text: &[u8]) {
+fn tell<W: Write>(to: &mut W, text: &[u8]) -> io::Result<()> {
     match scanning::scan::whole(text) {
-        Whole::Sound => tell_declarations(text),
-        Whole::Unsound(g) => tell_refused(g),
+        Whole::Sound => tell_declarations(to, text),
+        Whole::Unsound(g) => tell_refused(to, g),
     }
 }
 
-pub(crate) fn tell_line(line: &[u8]) {
+pub(crate) fn tell_line<W: Write>(to: &mut W, line: &[u8]) -> io::Result<()> {
     let mut room = [0u8; 4096];
     let n = put_text(line, &mut room);
-    tell(&room[0..n]);
+    tell(to, &room[0..n])
 }

@@ -3,6 +3,7 @@
 // other line is a case: it is written, with the answer of its list behind it. The expected answers stand in `stdout`, derived from the
 // documents. The module of each list tells how its lines read and what is answered.
 #![tactic(auto)]
+
 mod alterings;
 mod bits;
 mod evaluations;
@@ -21,55 +22,58 @@ mod translations;
 
 ghost use Rattle.std.specs.Prelude.{◌≡◌, length};
 
+use filling::read_full;
 use finding::find;
-use libc::{STDIN_FILENO, STDOUT_FILENO};
 use rooms::byte_at;
+use std::io;
+use std::io::Write;
 use telling::tell_unless;
 
 // What the list whose name begins with the letter answers to a line.
-fn tell_answer(letter: u8, line: &[u8]) {
+fn tell_answer<W: Write>(to: &mut W, letter: u8, line: &[u8]) -> io::Result<()> {
     match letter {
-        b'f' => forms::tell_line(line),
-        b'r' => readings::tell_line(line),
-        b'p' => printings::tell_line(line),
-        b'a' => alterings::tell_line(line),
-        b'n' => namings::tell_line(line),
-        b'e' => evaluations::tell_line(line),
-        b't' => translations::tell_line(line),
-        _ => tell_unless(false, b"no list has this line"),
+        b'f' => forms::tell_line(to, line),
+        b'r' => readings::tell_line(to, line),
+        b'p' => printings::tell_line(to, line),
+        b'a' => alterings::tell_line(to, line),
+        b'n' => namings::tell_line(to, line),
+        b'e' => evaluations::tell_line(to, line),
+        b't' => translations::tell_line(to, line),
+        _ => tell_unless(to, false, b"no list has this line"),
     }
 }
 
-fn tell_case(letter: u8, line: &[u8]) {
-    io::write_all(STDOUT_FILENO, line);
-    io::write_all(STDOUT_FILENO, b" -> ");
-    tell_answer(letter, line);
-    io::write_all(STDOUT_FILENO, b"\n");
+fn tell_case<W: Write>(to: &mut W, letter: u8, line: &[u8]) -> io::Result<()> {
+    to.write_all(line)?;
+    to.write_all(b" -> ")?;
+    tell_answer(to, letter, line)?;
+    to.write_all(b"\n")
 }
 
-fn tell_name(line: &[u8]) {
-    io::write_all(STDOUT_FILENO, line);
-    io::write_all(STDOUT_FILENO, b"\n");
+fn tell_name<W: Write>(to: &mut W, line: &[u8]) -> io::Result<()> {
+    to.write_all(line)?;
+    to.write_all(b"\n")
 }
 
 // A line told; the letter of the list that the next line belongs to.
-fn tell_line(letter: u8, line: &[u8]) -> u8 {
+fn tell_line<W: Write>(to: &mut W, letter: u8, line: &[u8]) -> io::Result<u8> {
     if byte_at(line, 0) == b'@' {
-        tell_name(line);
-        return byte_at(line, 2);
+        tell_name(to, line)?;
+        return Ok(byte_at(line, 2));
     }
-    tell_case(letter, line);
-    letter
+    tell_case(to, letter, line)?;
+    Ok(letter)
 }
 
-fn tell_all(all: &[u8]) {
+fn tell_all<W: Write>(to: &mut W, all: &[u8]) -> io::Result<()> {
     let mut letter: u8 = 0;
     let mut from: usize = 0;
     while from < all.len() {
         let end = find(all, from, 10);
-        letter = tell_line(letter, &all[from..end]);
+        letter = tell_line(to, letter, &all[from..end])?;
         from = end + 1;
     }
+    Ok(())
 }
 
 // All lists together have to be shorter than this; of longer ones the end would be missing in the output.
@@ -79,8 +83,10 @@ fn room_for_all() -> [u8; 1048576]
     [0; 1048576]
 }
 
-fn main() {
+fn main(rt: HostRuntime) -> io::Result<()> {
+    let mut from = rt.stdin();
+    let mut to = rt.stdout();
     let mut all = room_for_all();
-    let n = io::read_full(STDIN_FILENO, &mut all);
-    tell_all(&all[0..n]);
+    let n = read_full(&mut from, &mut all)?;
+    tell_all(&mut to, &all[0..n])
 }

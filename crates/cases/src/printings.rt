@@ -12,40 +12,39 @@ use crate::tables::{
 use crate::telling::{tell_many, tell_one, tell_unless};
 use finding::find;
 use ground::Refusal;
-use libc::STDOUT_FILENO;
 use printing::{Printed, print_text};
 use reader::read_text;
 use reading::Read;
+use std::io;
+use std::io::Write;
 use tellrefused::tell_refused;
 use worked::put_text;
 
-fn tell_byte(b: u8) {
+fn tell_byte<W: Write>(to: &mut W, b: u8) -> io::Result<()> {
     if b == 10 {
-        io::write_all(STDOUT_FILENO, b"\\n");
-        return;
+        return to.write_all(b"\\n");
     }
     if b == 92 {
-        io::write_all(STDOUT_FILENO, b"\\\\");
-        return;
+        return to.write_all(b"\\\\");
     }
-    tell_one(b);
+    tell_one(to, b)
 }
 
-fn tell_bytes(text: &[u8], n: usize) {
+fn tell_bytes<W: Write>(to: &mut W, text: &[u8], n: usize) -> io::Result<()> {
     let mut i: usize = 0;
     while i < n {
-        tell_byte(byte_at(text, i));
+        tell_byte(to, byte_at(text, i))?;
         i += 1;
     }
+    Ok(())
 }
 
 // A canonical text of n bytes at the front of a room.
-fn tell_canonical(room: &[u8], n: usize) {
+fn tell_canonical<W: Write>(to: &mut W, room: &[u8], n: usize) -> io::Result<()> {
     if n <= 2000 {
-        tell_bytes(room, n);
-        return;
+        return tell_bytes(to, room, n);
     }
-    tell_many(n, b" bytes", room, n);
+    tell_many(to, n, b" bytes", room, n)
 }
 
 fn has_length(r: Printed, n: usize) -> bool {
@@ -78,54 +77,79 @@ fn canonical_room() -> [u8; 600000]
 }
 
 // A room just as long as the text takes it.
-fn tell_exact(rows: &[u32], strings: &[u8], trits: &[u8], text: &[u8], n: usize) {
+fn tell_exact<W: Write>(
+    to: &mut W,
+    rows: &[u32],
+    strings: &[u8],
+    trits: &[u8],
+    text: &[u8],
+    n: usize,
+) -> io::Result<()> {
     let mut room = canonical_room();
     let r = print_part(rows, strings, trits, &mut room, n);
-    tell_unless(has_length(r, n), b" (not in a room just as long)");
+    tell_unless(to, has_length(r, n), b" (not in a room just as long)")?;
     tell_unless(
+        to,
         same_bytes(&room, text, n),
         b" (another text in a room just as long)",
-    );
-    tell_unless(kept(&room, n), b" (past a room just as long)");
+    )?;
+    tell_unless(to, kept(&room, n), b" (past a room just as long)")
 }
 
 // A room one byte short is refused 24 at 0, and nothing is written.
-fn tell_short(rows: &[u32], strings: &[u8], trits: &[u8], n: usize) {
+fn tell_short<W: Write>(
+    to: &mut W,
+    rows: &[u32],
+    strings: &[u8],
+    trits: &[u8],
+    n: usize,
+) -> io::Result<()> {
     let mut room = canonical_room();
     let r = print_part(rows, strings, trits, &mut room, less(n));
     tell_unless(
+        to,
         is_refused(r, 24),
         b" (in a room one byte short not refused 24 at 0)",
-    );
-    tell_unless(kept(&room, 0), b" (a room one byte short is changed)");
+    )?;
+    tell_unless(to, kept(&room, 0), b" (a room one byte short is changed)")
 }
 
-fn tell_same(
+fn tell_same<W: Write>(
+    to: &mut W,
     rows: &[u32],
     strings: &[u8],
     trits: &[u8],
     other_rows: &[u32],
     other_strings: &[u8],
     other_trits: &[u8],
-) {
+) -> io::Result<()> {
     tell_unless(
+        to,
         same_words(rows, other_rows, 26307),
         b" (other rows when read again)",
-    );
+    )?;
     tell_unless(
+        to,
         same_bytes(strings, other_strings, 16384),
         b" (other strings when read again)",
-    );
+    )?;
     tell_unless(
+        to,
         same_bytes(trits, other_trits, 393728),
         b" (other trits when read again)",
-    );
+    )
 }
 
 // A canonical text that is no longer than a text may be gives the same tables.
-fn tell_again(text: &[u8], rows: &[u32], strings: &[u8], trits: &[u8]) {
+fn tell_again<W: Write>(
+    to: &mut W,
+    text: &[u8],
+    rows: &[u32],
+    strings: &[u8],
+    trits: &[u8],
+) -> io::Result<()> {
     if 65536 < text.len() {
-        return;
+        return Ok(());
     }
     let mut other_rows = exact_rows();
     let mut other_strings = exact_strings();
@@ -138,59 +162,74 @@ fn tell_again(text: &[u8], rows: &[u32], strings: &[u8], trits: &[u8]) {
         &mut other_trits,
         &mut work,
     );
-    tell_unless(accepted(r), b" (refused when read again)");
+    tell_unless(to, accepted(r), b" (refused when read again)")?;
     tell_same(
+        to,
         rows,
         strings,
         trits,
         &other_rows,
         &other_strings,
         &other_trits,
-    );
+    )
 }
 
-fn tell_length(rows: &[u32], strings: &[u8], trits: &[u8], room: &[u8], n: usize) {
-    tell_canonical(room, n);
-    tell_unless(kept(room, n), b" (past the text)");
-    tell_exact(rows, strings, trits, room, n);
-    tell_short(rows, strings, trits, n);
+fn tell_length<W: Write>(
+    to: &mut W,
+    rows: &[u32],
+    strings: &[u8],
+    trits: &[u8],
+    room: &[u8],
+    n: usize,
+) -> io::Result<()> {
+    tell_canonical(to, room, n)?;
+    tell_unless(to, kept(room, n), b" (past the text)")?;
+    tell_exact(to, rows, strings, trits, room, n)?;
+    tell_short(to, rows, strings, trits, n)?;
     if n <= room.len() {
-        tell_again(&room[0..n], rows, strings, trits);
+        tell_again(to, &room[0..n], rows, strings, trits)?;
     }
+    Ok(())
 }
 
-fn tell_unprinted(g: Refusal) {
-    io::write_all(STDOUT_FILENO, b"not printed: ");
-    tell_refused(g);
+fn tell_unprinted<W: Write>(to: &mut W, g: Refusal) -> io::Result<()> {
+    to.write_all(b"not printed: ")?;
+    tell_refused(to, g)
 }
 
-fn tell_tables(rows: &[u32], strings: &[u8], trits: &[u8]) {
+fn tell_tables<W: Write>(to: &mut W, rows: &[u32], strings: &[u8], trits: &[u8]) -> io::Result<()> {
     let mut room = canonical_room();
     let r = print_text(rows, strings, trits, &mut room);
     match r {
-        Printed::Refused(g) => tell_unprinted(g),
-        Printed::Length(n) => tell_length(rows, strings, trits, &room, n),
+        Printed::Refused(g) => tell_unprinted(to, g),
+        Printed::Length(n) => tell_length(to, rows, strings, trits, &room, n),
     }
 }
 
-fn tell_answer(r: Read, rows: &[u32], strings: &[u8], trits: &[u8]) {
+fn tell_answer<W: Write>(
+    to: &mut W,
+    r: Read,
+    rows: &[u32],
+    strings: &[u8],
+    trits: &[u8],
+) -> io::Result<()> {
     match r {
-        Read::Refused(g) => tell_refused(g),
-        Read::Accepted => tell_tables(rows, strings, trits),
+        Read::Refused(g) => tell_refused(to, g),
+        Read::Accepted => tell_tables(to, rows, strings, trits),
     }
 }
 
-fn tell_text(text: &[u8]) {
+fn tell_text<W: Write>(to: &mut W, text: &[u8]) -> io::Result<()> {
     let mut rows = lent_rows();
     let mut strings = lent_strings();
     let mut trits = lent_trits();
     let mut work = lent_work();
     let r = read_text(text, &mut rows, &mut strings, &mut trits, &mut work);
-    tell_answer(r, &rows, &strings, &trits);
+    tell_answer(to, r, &rows, &strings, &trits)
 }
 
-pub(crate) fn tell_line(line: &[u8]) {
+pub(crate) fn tell_line<W: Write>(to: &mut W, line: &[u8]) -> io::Result<()> {
     let mut room = text_room();
     let n = put_text(line, &mut room);
-    tell_text(&room[0..n]);
+    tell_text(to, &room[0..n])
 }

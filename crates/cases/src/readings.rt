@@ -6,65 +6,88 @@ use crate::tables::{lent_rows, lent_strings, lent_trits, lent_work, text_room};
 use crate::telling::{sum_bytes, sum_words, tell_unless};
 use finding::find;
 use ground::Refusal;
-use libc::STDOUT_FILENO;
 use reader::read_text;
 use reading::Read;
+use std::io;
+use std::io::Write;
 use tellrefused::tell_refused;
 use worked::put_text;
 
-fn tell_count(count: u32, what: &[u8]) {
-    io::print_decimal(STDOUT_FILENO, count as u64);
-    io::write_all(STDOUT_FILENO, what);
+fn tell_count<W: Write>(to: &mut W, count: u32, what: &[u8]) -> io::Result<()> {
+    write!(to, "{count}")?;
+    to.write_all(what)
 }
 
-fn tell_sum(what: &[u8], sum: u64) {
-    io::write_all(STDOUT_FILENO, what);
-    io::print_decimal(STDOUT_FILENO, sum);
+fn tell_sum<W: Write>(to: &mut W, what: &[u8], sum: u64) -> io::Result<()> {
+    to.write_all(what)?;
+    write!(to, "{sum}")
 }
 
-fn tell_tables(rows: &[u32], strings: &[u8], trits: &[u8]) {
-    tell_count(word_at(rows, 0), b" metadata, ");
-    tell_count(word_at(rows, 1), b" pads, ");
-    tell_count(word_at(rows, 2), b" cells; ");
-    tell_sum(b"rows ", sum_words(rows, 26307));
-    tell_sum(b", strings ", sum_bytes(strings, 16384));
-    tell_sum(b", trits ", sum_bytes(trits, 393728));
+fn tell_tables<W: Write>(to: &mut W, rows: &[u32], strings: &[u8], trits: &[u8]) -> io::Result<()> {
+    tell_count(to, word_at(rows, 0), b" metadata, ")?;
+    tell_count(to, word_at(rows, 1), b" pads, ")?;
+    tell_count(to, word_at(rows, 2), b" cells; ")?;
+    tell_sum(to, b"rows ", sum_words(rows, 26307))?;
+    tell_sum(to, b", strings ", sum_bytes(strings, 16384))?;
+    tell_sum(to, b", trits ", sum_bytes(trits, 393728))
 }
 
-fn tell_refusal(g: Refusal, rows: &[u32], strings: &[u8], trits: &[u8]) {
-    tell_refused(g);
-    tell_unless(all_words(rows, 26307, 0), b" (rows not cleared)");
-    tell_unless(all_bytes(strings, 0, 16384, 0), b" (strings not cleared)");
-    tell_unless(all_bytes(trits, 0, 393728, 0), b" (trits not cleared)");
+fn tell_refusal<W: Write>(
+    to: &mut W,
+    g: Refusal,
+    rows: &[u32],
+    strings: &[u8],
+    trits: &[u8],
+) -> io::Result<()> {
+    tell_refused(to, g)?;
+    tell_unless(to, all_words(rows, 26307, 0), b" (rows not cleared)")?;
+    tell_unless(
+        to,
+        all_bytes(strings, 0, 16384, 0),
+        b" (strings not cleared)",
+    )?;
+    tell_unless(to, all_bytes(trits, 0, 393728, 0), b" (trits not cleared)")
 }
 
-fn tell_answer(r: Read, rows: &[u32], strings: &[u8], trits: &[u8]) {
+fn tell_answer<W: Write>(
+    to: &mut W,
+    r: Read,
+    rows: &[u32],
+    strings: &[u8],
+    trits: &[u8],
+) -> io::Result<()> {
     match r {
-        Read::Refused(g) => tell_refusal(g, rows, strings, trits),
-        Read::Accepted => tell_tables(rows, strings, trits),
+        Read::Refused(g) => tell_refusal(to, g, rows, strings, trits),
+        Read::Accepted => tell_tables(to, rows, strings, trits),
     }
 }
 
-fn tell_past(rows: &[u32], strings: &[u8], trits: &[u8], work: &[u32]) {
-    tell_unless(all_words(work, 132608, 0), b" (work space not cleared)");
-    tell_unless(word_at(rows, 26307) == 7, b" (past the rows)");
-    tell_unless(byte_at(strings, 16384) == 7, b" (past the strings)");
-    tell_unless(byte_at(trits, 393728) == 7, b" (past the trits)");
-    tell_unless(word_at(work, 132608) == 7, b" (past the work space)");
+fn tell_past<W: Write>(
+    to: &mut W,
+    rows: &[u32],
+    strings: &[u8],
+    trits: &[u8],
+    work: &[u32],
+) -> io::Result<()> {
+    tell_unless(to, all_words(work, 132608, 0), b" (work space not cleared)")?;
+    tell_unless(to, word_at(rows, 26307) == 7, b" (past the rows)")?;
+    tell_unless(to, byte_at(strings, 16384) == 7, b" (past the strings)")?;
+    tell_unless(to, byte_at(trits, 393728) == 7, b" (past the trits)")?;
+    tell_unless(to, word_at(work, 132608) == 7, b" (past the work space)")
 }
 
-fn tell_text(text: &[u8]) {
+fn tell_text<W: Write>(to: &mut W, text: &[u8]) -> io::Result<()> {
     let mut rows = lent_rows();
     let mut strings = lent_strings();
     let mut trits = lent_trits();
     let mut work = lent_work();
     let r = read_text(text, &mut rows, &mut strings, &mut trits, &mut work);
-    tell_answer(r, &rows, &strings, &trits);
-    tell_past(&rows, &strings, &trits, &work);
+    tell_answer(to, r, &rows, &strings, &trits)?;
+    tell_past(to, &rows, &strings, &trits, &work)
 }
 
-pub(crate) fn tell_line(line: &[u8]) {
+pub(crate) fn tell_line<W: Write>(to: &mut W, line: &[u8]) -> io::Result<()> {
     let mut room = text_room();
     let n = put_text(line, &mut room);
-    tell_text(&room[0..n]);
+    tell_text(to, &room[0..n])
 }

@@ -8,6 +8,8 @@ use ground::Refusal;
 use naming::{Named, full_name};
 use netlist::Found;
 use printing::{Printed, print_text};
+use std::io;
+use std::io::Write;
 use translating::{Translated, translate};
 
 fn same_refusal(g: Refusal, h: Refusal) -> bool {
@@ -26,11 +28,17 @@ fn print_refuses(r: Printed, g: Refusal) -> bool {
     }
 }
 
-fn tell_print(g: Refusal, rows: &[u32], strings: &[u8], trits: &[u8]) {
+fn tell_print<W: Write>(
+    to: &mut W,
+    g: Refusal,
+    rows: &[u32],
+    strings: &[u8],
+    trits: &[u8],
+) -> io::Result<()> {
     let mut room = [7u8; 65536];
     let r = print_text(rows, strings, trits, &mut room);
-    tell_unless(print_refuses(r, g), b" (printing answers otherwise)");
-    tell_unless(kept(&room, 0), b" (printing changes the room)");
+    tell_unless(to, print_refuses(r, g), b" (printing answers otherwise)")?;
+    tell_unless(to, kept(&room, 0), b" (printing changes the room)")
 }
 
 fn name_refuses(r: Named, g: Refusal) -> bool {
@@ -40,11 +48,17 @@ fn name_refuses(r: Named, g: Refusal) -> bool {
     }
 }
 
-fn tell_name(g: Refusal, rows: &[u32], strings: &[u8], trits: &[u8]) {
+fn tell_name<W: Write>(
+    to: &mut W,
+    g: Refusal,
+    rows: &[u32],
+    strings: &[u8],
+    trits: &[u8],
+) -> io::Result<()> {
     let mut room = [7u8; 300];
     let r = full_name(rows, strings, trits, 0, &mut room);
-    tell_unless(name_refuses(r, g), b" (naming answers otherwise)");
-    tell_unless(kept(&room, 0), b" (naming changes the room)");
+    tell_unless(to, name_refuses(r, g), b" (naming answers otherwise)")?;
+    tell_unless(to, kept(&room, 0), b" (naming changes the room)")
 }
 
 fn lookup_refuses(r: Found, g: Refusal) -> bool {
@@ -54,9 +68,15 @@ fn lookup_refuses(r: Found, g: Refusal) -> bool {
     }
 }
 
-fn tell_lookup(g: Refusal, rows: &[u32], strings: &[u8], trits: &[u8]) {
+fn tell_lookup<W: Write>(
+    to: &mut W,
+    g: Refusal,
+    rows: &[u32],
+    strings: &[u8],
+    trits: &[u8],
+) -> io::Result<()> {
     let f = lookup_io(rows, strings, trits, b"a");
-    tell_unless(lookup_refuses(f, g), b" (the lookup answers otherwise)");
+    tell_unless(to, lookup_refuses(f, g), b" (the lookup answers otherwise)")
 }
 
 fn evaluation_refuses(r: Evaluated, g: Refusal) -> bool {
@@ -66,15 +86,22 @@ fn evaluation_refuses(r: Evaluated, g: Refusal) -> bool {
     }
 }
 
-fn tell_evaluation(g: Refusal, rows: &[u32], strings: &[u8], trits: &[u8]) {
+fn tell_evaluation<W: Write>(
+    to: &mut W,
+    g: Refusal,
+    rows: &[u32],
+    strings: &[u8],
+    trits: &[u8],
+) -> io::Result<()> {
     let mut room = [7u8; 300];
     let mut work = [7u32; 8193];
     let r = evaluate(rows, strings, trits, b"", &mut room, &mut work);
     tell_unless(
+        to,
         evaluation_refuses(r, g),
         b" (an evaluation answers otherwise)",
-    );
-    tell_unless(kept(&room, 0), b" (an evaluation changes the room)");
+    )?;
+    tell_unless(to, kept(&room, 0), b" (an evaluation changes the room)")
 }
 
 fn translation_refuses(r: Translated, g: Refusal) -> bool {
@@ -84,21 +111,34 @@ fn translation_refuses(r: Translated, g: Refusal) -> bool {
     }
 }
 
-fn tell_translation(g: Refusal, rows: &[u32], strings: &[u8], trits: &[u8]) {
+fn tell_translation<W: Write>(
+    to: &mut W,
+    g: Refusal,
+    rows: &[u32],
+    strings: &[u8],
+    trits: &[u8],
+) -> io::Result<()> {
     let mut room = [7u8; 300];
     let mut work = [7u32; 8193];
     let r = translate(rows, strings, trits, &mut room, &mut work);
     tell_unless(
+        to,
         translation_refuses(r, g),
         b" (a translation answers otherwise)",
-    );
-    tell_unless(kept(&room, 0), b" (a translation changes the room)");
+    )?;
+    tell_unless(to, kept(&room, 0), b" (a translation changes the room)")
 }
 
-pub(crate) fn tell_refusals(g: Refusal, rows: &[u32], strings: &[u8], trits: &[u8]) {
-    tell_print(g, rows, strings, trits);
-    tell_name(g, rows, strings, trits);
-    tell_lookup(g, rows, strings, trits);
-    tell_evaluation(g, rows, strings, trits);
-    tell_translation(g, rows, strings, trits);
+pub(crate) fn tell_refusals<W: Write>(
+    to: &mut W,
+    g: Refusal,
+    rows: &[u32],
+    strings: &[u8],
+    trits: &[u8],
+) -> io::Result<()> {
+    tell_print(to, g, rows, strings, trits)?;
+    tell_name(to, g, rows, strings, trits)?;
+    tell_lookup(to, g, rows, strings, trits)?;
+    tell_evaluation(to, g, rows, strings, trits)?;
+    tell_translation(to, g, rows, strings, trits)
 }

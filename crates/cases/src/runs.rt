@@ -7,9 +7,10 @@ use crate::tables::text_room;
 use crate::telling::{tell_many, tell_unless, tell_unwritten};
 use finding::{find, hex};
 use ground::Refusal;
-use libc::STDOUT_FILENO;
 use loadlist::Ran;
 use running::run;
+use std::io;
+use std::io::Write;
 use worked::{Spot, put_text};
 
 // The byte that two digits at a place say; a blank says none.
@@ -48,12 +49,11 @@ fn put_list(text: &[u8], room: &mut [u8]) -> usize
 }
 
 // The first n bits, or their number and sum where they are many.
-fn tell_all_bits(bits: &[u8], n: usize) {
+fn tell_all_bits<W: Write>(to: &mut W, bits: &[u8], n: usize) -> io::Result<()> {
     if n <= 256 {
-        tell_bits(bits, n);
-        return;
+        return tell_bits(to, bits, n);
     }
-    tell_many(n, b" bits", bits, n);
+    tell_many(to, n, b" bits", bits, n)
 }
 
 fn gives(r: Ran, n: usize) -> bool {
@@ -79,106 +79,129 @@ fn run_part(list: &[u8], ins: &[u8], room: &mut [u8], n: usize, work: &mut [u8])
 }
 
 // A room just as long as the answer takes it, and the slots are the same.
-fn tell_exact(list: &[u8], ins: &[u8], outs: &[u8], n: usize, slots: &[u8]) {
+fn tell_exact<W: Write>(
+    to: &mut W,
+    list: &[u8],
+    ins: &[u8],
+    outs: &[u8],
+    n: usize,
+    slots: &[u8],
+) -> io::Result<()> {
     let mut room = [7u8; 8200];
     let mut work = [7u8; 8193];
     let r = run_part(list, ins, &mut room, n, &mut work);
-    tell_unless(gives(r, n), b" (not in a room just as long)");
+    tell_unless(to, gives(r, n), b" (not in a room just as long)")?;
     tell_unless(
+        to,
         same_bytes(&room, outs, n),
         b" (other bits in a room just as long)",
-    );
-    tell_unless(kept(&room, n), b" (past a room just as long)");
+    )?;
+    tell_unless(to, kept(&room, n), b" (past a room just as long)")?;
     tell_unless(
+        to,
         same_bytes(&work, slots, 8193),
         b" (other slots beside a room just as long)",
-    );
+    )
 }
 
 // A room one byte short is refused 24 at 0, nothing is written, and work space is clear.
-fn tell_short(list: &[u8], ins: &[u8], n: usize) {
+fn tell_short<W: Write>(to: &mut W, list: &[u8], ins: &[u8], n: usize) -> io::Result<()> {
     let mut room = [7u8; 8200];
     let mut work = [7u8; 8193];
     let r = run_part(list, ins, &mut room, n, &mut work);
     tell_unless(
+        to,
         is_refused(r, 24),
         b" (in a room one byte short not refused 24 at 0)",
-    );
-    tell_unless(kept(&room, 0), b" (a room one byte short is changed)");
+    )?;
+    tell_unless(to, kept(&room, 0), b" (a room one byte short is changed)")?;
     tell_unless(
+        to,
         zero_from(&work, 0, 8192),
         b" (work space beside a short room is not clear)",
-    );
+    )
 }
 
 // Work space one byte short is refused 1 at 0, and nothing is written.
-fn tell_narrow(list: &[u8], ins: &[u8]) {
+fn tell_narrow<W: Write>(to: &mut W, list: &[u8], ins: &[u8]) -> io::Result<()> {
     let mut room = [7u8; 8200];
     let mut work = [7u8; 8191];
     let r = run(list, ins, &mut room, &mut work);
     tell_unless(
+        to,
         is_refused(r, 1),
         b" (work space one byte short not refused 1 at 0)",
-    );
+    )?;
     tell_unless(
+        to,
         kept(&room, 0),
         b" (a room beside short work space is changed)",
-    );
-    tell_unless(kept(&work, 0), b" (short work space is changed)");
+    )?;
+    tell_unless(to, kept(&work, 0), b" (short work space is changed)")
 }
 
-fn tell_outputs(list: &[u8], ins: &[u8], outs: &[u8], n: usize, work: &[u8]) {
+fn tell_outputs<W: Write>(
+    to: &mut W,
+    list: &[u8],
+    ins: &[u8],
+    outs: &[u8],
+    n: usize,
+    work: &[u8],
+) -> io::Result<()> {
     let count = list.len() / 8;
-    tell_all_bits(outs, n);
-    io::write_all(STDOUT_FILENO, b", slots ");
-    tell_all_bits(work, count);
-    tell_unless(kept(outs, n), b" (past the answer)");
+    tell_all_bits(to, outs, n)?;
+    to.write_all(b", slots ")?;
+    tell_all_bits(to, work, count)?;
+    tell_unless(to, kept(outs, n), b" (past the answer)")?;
     tell_unless(
+        to,
         zero_from(work, count, 8192),
         b" (work space past the slots is not clear)",
-    );
-    tell_exact(list, ins, outs, n, work);
+    )?;
+    tell_exact(to, list, ins, outs, n, work)?;
     if 0 < n {
-        tell_short(list, ins, n - 1);
+        tell_short(to, list, ins, n - 1)?;
     }
+    Ok(())
 }
 
-fn tell_none(g: Refusal, outs: &[u8], work: &[u8]) {
-    tell_unwritten(g, outs);
+fn tell_none<W: Write>(to: &mut W, g: Refusal, outs: &[u8], work: &[u8]) -> io::Result<()> {
+    tell_unwritten(to, g, outs)?;
     tell_unless(
+        to,
         zero_from(work, 0, 8192),
         b" (work space of a refusal is not clear)",
-    );
+    )
 }
 
 // The room is longer than every answer: a list has at most 8,192 output bits.
-fn tell_ran(list: &[u8], ins: &[u8]) {
+fn tell_ran<W: Write>(to: &mut W, list: &[u8], ins: &[u8]) -> io::Result<()> {
     let mut outs = [7u8; 8200];
     let mut work = [7u8; 8193];
     let r = run(list, ins, &mut outs, &mut work);
     match r {
-        Ran::Refused(g) => tell_none(g, &outs, &work),
-        Ran::Outputs(n) => tell_outputs(list, ins, &outs, n, &work),
+        Ran::Refused(g) => tell_none(to, g, &outs, &work)?,
+        Ran::Outputs(n) => tell_outputs(to, list, ins, &outs, n, &work)?,
     }
-    tell_narrow(list, ins);
+    tell_narrow(to, list, ins)
 }
 
 // The run under the bits at the front of the letters.
-fn tell_setting(letters: &[u8], list: &[u8]) {
+fn tell_setting<W: Write>(to: &mut W, letters: &[u8], list: &[u8]) -> io::Result<()> {
     let mut ins = [0u8; 5000];
     let n = put_bits(letters, find(letters, 0, 32), &mut ins);
-    tell_ran(list, &ins[0..n]);
+    tell_ran(to, list, &ins[0..n])
 }
 
-fn tell_hex_list(letters: &[u8], hex: &[u8]) {
+fn tell_hex_list<W: Write>(to: &mut W, letters: &[u8], hex: &[u8]) -> io::Result<()> {
     let mut list = text_room();
     let n = put_list(hex, &mut list);
-    tell_setting(letters, &list[0..n]);
+    tell_setting(to, letters, &list[0..n])
 }
 
-fn tell_hex(letters: &[u8], said: &[u8], text: &mut [u8]) {
+fn tell_hex<W: Write>(to: &mut W, letters: &[u8], said: &[u8], text: &mut [u8]) -> io::Result<()> {
     let n = put_text(said, text);
-    tell_hex_list(letters, &text[0..n]);
+    tell_hex_list(to, letters, &text[0..n])
 }
 
 // Room for a list in hex.
@@ -189,7 +212,7 @@ fn hex_room() -> [u8; 140000]
 }
 
 // The run of the list that a line says.
-pub(crate) fn tell_run(letters: &[u8], said: &[u8]) {
+pub(crate) fn tell_run<W: Write>(to: &mut W, letters: &[u8], said: &[u8]) -> io::Result<()> {
     let mut text = hex_room();
-    tell_hex(letters, said, &mut text);
+    tell_hex(to, letters, said, &mut text)
 }

@@ -3,20 +3,21 @@ ghost use Rattle.std.specs.Prelude.{◌<◌};
 
 use crate::rooms::{byte_at, kept, word_at};
 use ground::Refusal;
-use libc::STDOUT_FILENO;
+use std::io;
+use std::io::Write;
 use tellrefused::tell_refused;
 
-pub(crate) fn tell_unless(right: bool, what: &[u8]) {
+pub(crate) fn tell_unless<W: Write>(to: &mut W, right: bool, what: &[u8]) -> io::Result<()> {
     if right {
-        return;
+        return Ok(());
     }
-    io::write_all(STDOUT_FILENO, what);
+    to.write_all(what)
 }
 
 // A refusal that must leave the room as it was lent.
-pub(crate) fn tell_unwritten(g: Refusal, room: &[u8]) {
-    tell_refused(g);
-    tell_unless(kept(room, 0), b" (a refused room is changed)");
+pub(crate) fn tell_unwritten<W: Write>(to: &mut W, g: Refusal, room: &[u8]) -> io::Result<()> {
+    tell_refused(to, g)?;
+    tell_unless(to, kept(room, 0), b" (a refused room is changed)")
 }
 
 fn digit(x: u8) -> u8
@@ -29,14 +30,14 @@ fn digit(x: u8) -> u8
 }
 
 // A byte as two digits.
-pub(crate) fn tell_hex(b: u8) {
+pub(crate) fn tell_hex<W: Write>(to: &mut W, b: u8) -> io::Result<()> {
     let two = [digit(b / 16), digit(b % 16)];
-    io::write_all(STDOUT_FILENO, &two);
+    to.write_all(&two)
 }
 
-pub(crate) fn tell_one(b: u8) {
+pub(crate) fn tell_one<W: Write>(to: &mut W, b: u8) -> io::Result<()> {
     let one = [b];
-    io::write_all(STDOUT_FILENO, &one);
+    to.write_all(&one)
 }
 
 // A word modulo 4,294,967,291: there is no need to divide, since it holds the modulus at most once.
@@ -88,9 +89,15 @@ pub(crate) fn sum_words(words: &[u32], n: usize) -> u64 {
 }
 
 // Many of something, told by their number and a sum over their n bytes.
-pub(crate) fn tell_many(count: usize, what: &[u8], bytes: &[u8], n: usize) {
-    io::print_decimal(STDOUT_FILENO, count as u64);
-    io::write_all(STDOUT_FILENO, what);
-    io::write_all(STDOUT_FILENO, b", sum ");
-    io::print_decimal(STDOUT_FILENO, sum_bytes(bytes, n));
+pub(crate) fn tell_many<W: Write>(
+    to: &mut W,
+    count: usize,
+    what: &[u8],
+    bytes: &[u8],
+    n: usize,
+) -> io::Result<()> {
+    write!(to, "{count}")?;
+    to.write_all(what)?;
+    let sum = sum_bytes(bytes, n);
+    write!(to, ", sum {sum}")
 }

@@ -8,21 +8,24 @@ use crate::loads::tell_list;
 use crate::rooms::byte_at;
 use crate::runs::tell_run;
 use finding::find;
+use std::io;
+use std::io::Write;
 
-fn tell_said(line: &[u8], said: &[u8]) {
+fn tell_said<W: Write>(to: &mut W, line: &[u8], said: &[u8]) -> io::Result<()> {
     if byte_at(line, 0) == 108 {
-        tell_list(said);
-        return;
+        return tell_list(to, said);
     }
     let blank = find(line, 0, 32);
     if blank < line.len() {
-        tell_run(&line[blank + 1..line.len()], said);
+        tell_run(to, &line[blank + 1..line.len()], said)?;
     }
+    Ok(())
 }
 
-pub(crate) fn tell_line(line: &[u8]) {
+pub(crate) fn tell_line<W: Write>(to: &mut W, line: &[u8]) -> io::Result<()> {
     let bar = find(line, 0, 124);
     if bar < line.len() {
-        tell_said(line, &line[bar + 1..line.len()]);
+        tell_said(to, line, &line[bar + 1..line.len()])?;
     }
+    Ok(())
 }

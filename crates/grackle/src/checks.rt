@@ -1,12 +1,20 @@
 // `check`: a line for each file.
+use crate::arguments::put_arg;
 use crate::files::answer_file;
 use answering::Job;
-use libc::STDERR_FILENO;
+use std::io;
+use std::io::Write;
+use std::rt::{Env, Files};
 
-fn check_file(i: usize) -> bool {
-    let mut path = io::buffer();
-    let n = os::arg(i, &mut path);
-    answer_file(Job::Check, &path[..n], b"")
+fn check_file<R: Env + Files + Input, O: Write, E: Write>(
+    rt: &R,
+    out: &mut O,
+    err: &mut E,
+    i: usize,
+) -> io::Result<bool> {
+    let mut path = [0u8; 4096];
+    let n = put_arg(rt, i, &mut path);
+    answer_file(rt, out, err, Job::Check, &path[..n], b"")
 }
 
 // The files that are not good, one more counted.
@@ -21,22 +29,23 @@ fn counted(bad: usize, good: bool) -> usize {
 }
 
 // The last line tells whoever looks at standard error alone that a file is not good.
-fn tell_bad(bad: usize) {
+fn tell_bad<E: Write>(err: &mut E, bad: usize) -> io::Result<()> {
     if bad == 0 {
-        return;
+        return Ok(());
     }
-    io::write_all(STDERR_FILENO, b"grackle: files that are not good: ");
-    io::print_decimal(STDERR_FILENO, bad as u64);
-    io::write_all(STDERR_FILENO, b"\n");
+    writeln!(err, "grackle: files that are not good: {bad}")
 }
 
 // The files that the arguments from the second on name.
-pub(crate) fn check_files(count: usize) {
+pub(crate) fn check_files<R: Env + Files + Input, O: Write, E: Write>(
+    rt: &R,
+    out: &mut O,
+    err: &mut E,
+    count: usize,
+) -> io::Result<()> {
     let mut bad: usize = 0;
-    let mut i: usize = 2;
-    while i < count {
-        bad = counted(bad, check_file(i));
-        i += 1;
+    for i in 2..count {
+        bad = counted(bad, check_file(rt, out, err, i)?);
     }
-    tell_bad(bad);
+    tell_bad(err, bad)
 }

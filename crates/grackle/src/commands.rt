@@ -1,6 +1,7 @@
 // What the arguments ask for.
-use crate::words::same;
+use crate::arguments::{put_arg, same};
 use answering::Job;
+use std::rt::Env;
 
 #[derive(Clone, Copy)]
 pub enum Command {
@@ -49,8 +50,8 @@ fn command_named(word: &[u8]) -> Command {
 }
 
 // The subcommand that an argument names.
-pub(crate) fn command_of(i: usize) -> Command {
+pub(crate) fn command_of<R: Env>(rt: &R, i: usize) -> Command {
     let mut room = [0u8; 16];
-    let n = os::arg(i, &mut room);
+    let n = put_arg(rt, i, &mut room);
     command_named(&room[..n])
 }

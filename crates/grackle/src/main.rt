@@ -2,106 +2,151 @@
 // calls the function that answers, and tells the answer. It decides nothing itself. An answer goes to standard output; a refusal, a file
 // that cannot be read and a wrong call go to standard error, one line each, with nothing on standard output. `check` tells each file's
 // line on standard output.
+#![tactic(auto)]
+
+mod arguments;
 mod checks;
 mod commands;
 mod files;
 mod help;
-mod words;
 
+use crate::arguments::{arg_count, is_option, put_arg};
 use crate::checks::check_files;
 use crate::commands::{Command, command_of};
 use crate::files::answer_file;
 use crate::help::{tell_help, tell_unknown, tell_usage};
-use crate::words::is_option;
 use answering::Job;
+use std::env::FillError;
+use std::io;
+use std::io::Write;
+use std::rt::{Env, Files};
 
 // The file that an argument names, and what is asked of it.
-fn serve(job: Job, file: usize, word: &[u8]) {
-    let mut path = io::buffer();
-    let n = os::arg(file, &mut path);
-    answer_file(job, &path[..n], word);
+fn serve<R: Env + Files + Input, O: Write, E: Write>(
+    rt: &R,
+    out: &mut O,
+    err: &mut E,
+    job: Job,
+    file: usize,
+    word: &[u8],
+) -> io::Result<()> {
+    let mut path = [0u8; 4096];
+    let n = put_arg(rt, file, &mut path);
+    answer_file(rt, out, err, job, &path[..n], word)?;
+    Ok(())
 }
 
 // The bits of an argument, or a name: an argument longer than the room is longer than every assignment and every name.
-fn serve_with(job: Job, file: usize, word: usize) {
+fn serve_with<R: Env + Files + Input, O: Write, E: Write>(
+    rt: &R,
+    out: &mut O,
+    err: &mut E,
+    job: Job,
+    file: usize,
+    word: usize,
+) -> io::Result<()> {
     let mut room = [0u8; 8193];
-    let n = os::arg(word, &mut room);
-    if os::errno() == libc::ENAMETOOLONG {
-        serve(job, file, &room);
-        return;
+    match rt.arg(word, &mut room) {
+        Ok(n) => serve(rt, out, err, job, file, &room[..n]),
+        Err(FillError::TooLong) => serve(rt, out, err, job, file, &room),
+        Err(FillError::NotPresent) => serve(rt, out, err, job, file, b""),
     }
-    serve(job, file, &room[..n]);
 }
 
 // `eval` with `--bits`, before the file or behind the bits.
-fn serve_option() {
-    if is_option(2) {
-        serve_with(Job::EvalBits, 3, 4);
-        return;
+fn serve_option<R: Env + Files + Input, O: Write, E: Write>(
+    rt: &R,
+    out: &mut O,
+    err: &mut E,
+) -> io::Result<()> {
+    if is_option(rt, 2) {
+        return serve_with(rt, out, err, Job::EvalBits, 3, 4);
     }
-    if is_option(4) {
-        serve_with(Job::EvalBits, 2, 3);
-        return;
+    if is_option(rt, 4) {
+        return serve_with(rt, out, err, Job::EvalBits, 2, 3);
     }
-    tell_usage(Job::Eval);
+    tell_usage(err, Job::Eval)
 }
 
-fn serve_eval(count: usize) {
+fn serve_eval<R: Env + Files + Input, O: Write, E: Write>(
+    rt: &R,
+    out: &mut O,
+    err: &mut E,
+    count: usize,
+) -> io::Result<()> {
     if count == 4 {
-        serve_with(Job::Eval, 2, 3);
-        return;
+        return serve_with(rt, out, err, Job::Eval, 2, 3);
     }
     if count == 5 {
-        serve_option();
-        return;
+        return serve_option(rt, out, err);
     }
-    tell_usage(Job::Eval);
+    tell_usage(err, Job::Eval)
 }
 
-fn serve_two(job: Job, count: usize) {
+fn serve_two<R: Env + Files + Input, O: Write, E: Write>(
+    rt: &R,
+    out: &mut O,
+    err: &mut E,
+    job: Job,
+    count: usize,
+) -> io::Result<()> {
     if count == 4 {
-        serve_with(job, 2, 3);
-        return;
+        return serve_with(rt, out, err, job, 2, 3);
     }
-    tell_usage(job);
+    tell_usage(err, job)
 }
 
-fn serve_one(job: Job, count: usize) {
+fn serve_one<R: Env + Files + Input, O: Write, E: Write>(
+    rt: &R,
+    out: &mut O,
+    err: &mut E,
+    job: Job,
+    count: usize,
+) -> io::Result<()> {
     if count == 3 {
-        serve(job, 2, b"");
-        return;
+        return serve(rt, out, err, job, 2, b"");
     }
-    tell_usage(job);
+    tell_usage(err, job)
 }
 
-fn serve_check(count: usize) {
+fn serve_check<R: Env + Files + Input, O: Write, E: Write>(
+    rt: &R,
+    out: &mut O,
+    err: &mut E,
+    count: usize,
+) -> io::Result<()> {
     if 3 <= count {
-        check_files(count);
-        return;
+        return check_files(rt, out, err, count);
     }
-    tell_usage(Job::Check);
+    tell_usage(err, Job::Check)
 }
 
-fn serve_job(job: Job, count: usize) {
+fn serve_job<R: Env + Files + Input, O: Write, E: Write>(
+    rt: &R,
+    out: &mut O,
+    err: &mut E,
+    job: Job,
+    count: usize,
+) -> io::Result<()> {
     match job {
-        Job::Check => serve_check(count),
-        Job::Eval => serve_eval(count),
-        Job::Run => serve_two(job, count),
-        Job::Pad => serve_two(job, count),
-        _ => serve_one(job, count),
+        Job::Check => serve_check(rt, out, err, count),
+        Job::Eval => serve_eval(rt, out, err, count),
+        Job::Run => serve_two(rt, out, err, job, count),
+        Job::Pad => serve_two(rt, out, err, job, count),
+        _ => serve_one(rt, out, err, job, count),
     }
 }
 
-fn main() {
-    let count = os::arg_count();
+fn main(rt: HostRuntime) -> io::Result<()> {
+    let mut out = rt.stdout();
+    let mut err = rt.stderr();
+    let count = arg_count(&rt);
     if count < 2 {
-        tell_help();
-        return;
+        return tell_help(&mut out);
     }
-    let command = command_of(1);
-    match command {
-        Command::Help => tell_help(),
-        Command::Unknown => tell_unknown(),
-        Command::Of(job) => serve_job(job, count),
+    match command_of(&rt, 1) {
+        Command::Help => tell_help(&mut out),
+        Command::Unknown => tell_unknown(&mut err),
+        Command::Of(job) => serve_job(&rt, &mut out, &mut err, job, count),
     }
 }

@@ -6,9 +6,10 @@
 ghost use Rattle.std.specs.Prelude.{◌≡◌, ℕ, ◌<◌, ◌/◌, ◌%◌};
 ghost use Rattle.hexlines.specs.Lines.{digit_of, line_of};
 
-use libc::STDOUT_FILENO;
 use loadlist::Record;
 use records::{first, is_left, moved, record_of};
+use std::io;
+use std::io::Write;
 
 fn digit(x: u8) -> u8
     requires { x < 16 }
@@ -73,17 +74,18 @@ pub fn line_of(r: Record) -> [u8; 17]
     ]
 }
 
-fn tell_record(r: Record) {
+fn tell_record<W: Write>(to: &mut W, r: Record) -> io::Result<()> {
     let line = line_of(r);
-    io::write_all(STDOUT_FILENO, &line);
+    to.write_all(&line)
 }
 
 // The records of a list, a line each.
-pub fn tell_list(list: &[u8]) {
+pub fn tell_list<W: Write>(to: &mut W, list: &[u8]) -> io::Result<()> {
     let mut reader = first(list);
     while is_left(reader) {
         let r = record_of(reader);
-        tell_record(r);
+        tell_record(to, r)?;
         reader = moved(reader);
     }
+    Ok(())
 }

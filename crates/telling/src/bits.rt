@@ -3,6 +3,9 @@ ghost use Rattle.std.specs.Prelude.{◌≡◌, ◌≤◌, min, length};
 ghost use Rattle.std.proofs.lemmas.List.Edits.{sets};
 ghost use Rattle.telling.specs.Bits.{bit_of, bits_of};
 
+use std::io;
+use std::io::Write;
+
 // A letter that says no bit gives 3, which every evaluation and run refuses (23).
 fn bit_of(letter: u8) -> u8
     ensures { result ≡ bit_of letter }
@@ -72,11 +75,9 @@ fn put_letters(bits: &[u8], at: usize, n: usize, room: &mut [u8]) -> usize
 }
 
 // A line of the letters of n bits from a place on. No netlist and no list has more than 8,192 output bits.
-pub fn tell_bits(to: i32, bits: &[u8], at: usize, n: usize) -> bool {
+pub fn tell_bits<W: Write>(to: &mut W, bits: &[u8], at: usize, n: usize) -> io::Result<()> {
     let mut line = [0u8; 8192];
     let k = put_letters(bits, at, n, &mut line);
-    if io::write_all(to, &line[0..k]) {
-        return io::write_all(to, b"\n");
-    }
-    false
+    to.write_all(&line[0..k])?;
+    to.write_all(b"\n")
 }

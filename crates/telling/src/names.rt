@@ -1,11 +1,12 @@
 // Names, as the text of a netlist writes them: bytes outside 20-7E and the backslash as `\hh`.
+use std::io;
+use std::io::Write;
 
-fn tell_escaped(to: i32, b: u8) -> bool {
-    io::write_all(to, b"\\");
-    io::print_hex(to, b as u64, 2)
+fn tell_escaped<W: Write>(to: &mut W, b: u8) -> io::Result<()> {
+    write!(to, "\\{b:02x}")
 }
 
-fn tell_byte(to: i32, b: u8) -> bool {
+fn tell_byte<W: Write>(to: &mut W, b: u8) -> io::Result<()> {
     if b < 32 {
         return tell_escaped(to, b);
     }
@@ -15,19 +16,13 @@ fn tell_byte(to: i32, b: u8) -> bool {
     if b == 92 {
         return tell_escaped(to, b);
     }
-    let one = [b];
-    io::write_all(to, &one)
+    to.write_all(&[b])
 }
 
-// A name; whether all of it was written.
-pub fn tell_name(to: i32, name: &[u8]) -> bool {
-    let mut i: usize = 0;
-    while i < name.len() {
-        if tell_byte(to, name[i]) {
-            i += 1;
-        } else {
-            return false;
-        }
+// A name.
+pub fn tell_name<W: Write>(to: &mut W, name: &[u8]) -> io::Result<()> {
+    for b in name {
+        tell_byte(to, *b)?;
     }
-    true
+    Ok(())
 }

@@ -2,12 +2,12 @@
 #![tactic(auto)]
 
 use ground::Refusal;
-use libc::STDOUT_FILENO;
+use std::io;
+use std::io::Write;
 
-pub fn tell_refused(r: Refusal) {
-    io::write_all(STDOUT_FILENO, b"refused ");
-    io::print_decimal(STDOUT_FILENO, r.number as u64);
-    io::write_all(STDOUT_FILENO, b" at ");
+pub fn tell_refused<W: Write>(to: &mut W, r: Refusal) -> io::Result<()> {
+    let number = r.number;
     let place = r.place;
-    io::print_decimal(STDOUT_FILENO, place.at as u64);
+    let at = place.at;
+    write!(to, "refused {number} at {at}")
 }

@@ -6,6 +6,7 @@
 ghost use Rattle.std.specs.Prelude.{◌<◌, ◌≤◌, length};
 
 use finding::{find, hex};
+use itoa::Buffer;
 
 // Whether a pattern begins at the place.
 fn opens(line: &[u8], at: usize) -> bool {
@@ -97,9 +98,8 @@ fn put_number(room: &mut [u8], n: usize, value: u64) -> usize
     requires { n ≤ length room.old }
     ensures { result ≤ length room.old }
 {
-    let mut digits = [0u8; 20];
-    let k = io::decimal(value, &mut digits);
-    put_all(room, n, &digits[..k])
+    let mut digits = Buffer::new();
+    put_all(room, n, digits.format(value).as_bytes())
 }
 
 // The byte that an escape means whose letter is c; `rest` stands behind the letter.

@@ -1,5 +1,4 @@
-use lib.ListN.{length}
-use Prim.Native.Nat.{◌≤◌, ◌-◌}
+use Rattle.std.proofs.Common.{◌≤◌, ◌-◌, length}
 use Rattle.worked.proofs.number.Given as goal
 
 abbrev pub invariant-loop-i : goal.invariant-loop-i

@@ -1,10 +1,8 @@
-use mathlib.Core.Path.{◌≡◌}
-use lib.ListN.{length}
-use Prim.Native.Nat.{◌≤◌, ◌-◌}
+use Rattle.std.proofs.Common.{◌≤◌, ◌-◌, length}
 use Rattle.worked.proofs.put_text.Given as goal
 
 abbrev pub invariant-loop-at : goal.invariant-loop-at
-invariant-loop-at l = (l.n ≤ length l.initial.room) × (length l.room ≡ length l.initial.room) × (l.at ≤ length l.line)
+invariant-loop-at l = (l.n ≤ length l.room) × (l.at ≤ length l.line)
 
 abbrev pub decreases-loop-at : goal.decreases-loop-at
 decreases-loop-at l = length l.line - l.at

@@ -1,4 +1,4 @@
-use Prim.Native.Nat.{◌≤◌, ◌-◌}
+use Rattle.std.proofs.Common.{◌≤◌, ◌-◌}
 use Rattle.cases.proofs.rooms.same_bytes.Given as goal
 
 abbrev pub invariant-loop-i : goal.invariant-loop-i
