@@ -1,5 +1,7 @@
 -- WHAT READING ACCEPTS IS VALID: the netlist that a text says keeps every rule of 9 to 14, Text's number ranges and the limits of Room,
 -- with operands as longest runs.
+use Rattle.form.specs.Form.{Form}
+use Rattle.std.specs.Prelude.{Result, Ok, Err, Some, None}
 use mathlib.Core.Path.{◌≡◌, refl, ap, ap₂, subst, ◌∙◌}
 use mathlib.Core.Bool.{Bool, true}
 use mathlib.Core.List.{List, [], ◌∷◌, ◌++◌, map}
@@ -16,11 +18,7 @@ use Rattle.ground.proofs.Bools.{facts, every_first, every_more, no_facts}
 use Rattle.ground.proofs.Counts.{length_mapped}
 use Rattle.kinds.specs.Kinds.{input_kind, output_kind}
 use Rattle.scanning.specs.Whole.{whole_of}
-use Rattle.scanning.specs.declared.Whole.{Whole}
-use Rattle.scanning.specs.declared.Whole.TheVariants as whole
 use Rattle.form.specs.Forms.{form_at}
-use Rattle.form.specs.declared.Form.{Form}
-use Rattle.form.specs.declared.Form.TheVariants as form
 use Rattle.netlist.specs.Netlist.{Io, Cell, Netlist, runs_of, strings_of, meta_strings}
 use Rattle.netlist.specs.Rules.{distinct, names_as, output_bits, short_string, roomy, is_byte, cell_sound, widths_of, valid}
 use Rattle.netlist.proofs.Laying.{roomy_is, is_roomy}
@@ -109,9 +107,9 @@ module _ (text : List ℕ) (bytes : every is_byte text ≡ true) where
   all_sound (suc f) k so so' h e = go (form_at text k) refl (λ j so'' s. all_sound f j so'' so' s)
     where
       go : (v : Form) → form_at text k ≡ v → ((j : ℕ) (so'' : Sofar) → Sound so'' → declarations_from f text j so'' ≡ all so' → Sound so') → Sound so'
-      go (form.Refused g) v ih = let z : ◌≡◌ {A = ℕ} 1 0 = ap counted (rw (v, declarations_from) at e) in absurd (omega arith)
-      go form.End v ih = subst Sound (ap (said_in so) (rw (v, declarations_from) at e)) h
-      go (form.Took d r) v ih = ruling (ruled_out text so d) refl
+      go (Err g) v ih = let z : ◌≡◌ {A = ℕ} 1 0 = ap counted (rw (v, declarations_from) at e) in absurd (omega arith)
+      go (Ok None) v ih = subst Sound (ap (said_in so) (rw (v, declarations_from) at e)) h
+      go (Ok (Some (d, r))) v ih = ruling (ruled_out text so d) refl
         where
           ruling : (x : Option Refusal) → ruled_out text so d ≡ x → Sound so'
           ruling (some g) o = let z : ◌≡◌ {A = ℕ} 1 0 = ap counted (rw (v, declarations_from, o, declarations_from) at e) in absurd (omega arith)
@@ -144,6 +142,6 @@ pub accepted_valid : (text : List ℕ) (N : Netlist) → reading text ≡ says N
 unfolding reading
 accepted_valid text N e = go (whole_of text) refl
   where
-    go : (w : Whole) → whole_of text ≡ w → valid N ≡ true
-    go whole.Sound f = sound_accepted text N (sound_bytes text f) (rw f at e)
-    go (whole.Unsound g) f = never_says g N (rw f at e)
+    go : (w : Result (Unit {0}) Refusal) → whole_of text ≡ w → valid N ≡ true
+    go (Ok tt) f = sound_accepted text N (sound_bytes text f) (rw f at e)
+    go (Err g) f = never_says g N (rw f at e)

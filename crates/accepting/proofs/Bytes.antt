@@ -1,5 +1,6 @@
 -- Document 01, Text: the bytes of a text that is UTF-8 are bytes, and so are those that a string of it means; the characters of a
 -- constant are trits.
+use Rattle.std.specs.Prelude.{Ok}
 use mathlib.Core.Path.{◌≡◌, refl, sym}
 use mathlib.Core.Bool.{Bool, true, false, not, ◌&&◌, ◌||◌}
 use mathlib.Core.List.{List, [], ◌∷◌, map}
@@ -16,7 +17,6 @@ use Rattle.ground.proofs.Tables.{at}
 use Rattle.signs.specs.Bytes.{Range, in_range, class_from, class_of, is_constant, is_hex, is_raw, hex_of, trit_of}
 use Rattle.signs.specs.Pieces.{span_end, Str, whole, broken, prefixed, string_from, bytes_in, decoded}
 use Rattle.scanning.specs.Whole.{Sequence, sequences, tail_of, lacks_past, began_at, bad_from, bad_at, ending, unsound, whole_of}
-use Rattle.scanning.specs.declared.Whole.TheVariants as whole
 use Rattle.signs.proofs.Bytes.{within_true}
 use Rattle.signs.proofs.Strings.{hex_low, hex_high, hex_inside}
 use Rattle.netlist.specs.Rules.{is_byte, is_trit}
@@ -66,16 +66,16 @@ sound_from (b ∷ s) rs from k h e = go (lacks_past rs b) refl (λ t. sound_from
     go none f ih = never_some (began_at rs from k) (sym (rw (f, bad_from) at e))
     go (some t) f ih = let p = past_bytes rs b t h f in every_more is_byte b s p.0 (ih t p.1 (rw (f, bad_from) at e))
 
-never_sound : {P : Type 0} (n k : ℕ) → unsound n k ≡ whole.Sound → P
+never_sound : {P : Type 0} (n k : ℕ) → unsound n k ≡ Ok tt → P
 never_sound n k e = let z : ◌≡◌ {A = ℕ} 0 1 = cc in absurd (omega arith)
 
-pub sound_bytes : (text : List ℕ) → whole_of text ≡ whole.Sound → every is_byte text ≡ true
+pub sound_bytes : (text : List ℕ) → whole_of text ≡ Ok tt → every is_byte text ≡ true
 unfolding whole_of every
 sound_bytes text e = bool_cases (ltb 65536 (length text))
     (λ l. never_sound 2 65536 (rw l at e))
     (λ l. go (bad_at text) refl (rw l at e))
   where
-    go : (x : Option ℕ) → bad_at text ≡ x → ending text x ≡ whole.Sound → every is_byte text ≡ true
+    go : (x : Option ℕ) → bad_at text ≡ x → ending text x ≡ Ok tt → every is_byte text ≡ true
     go none f s = sound_from text [] 0 0 refl f
     go (some k) f s = never_sound 3 k s
 

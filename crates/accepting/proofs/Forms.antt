@@ -1,5 +1,8 @@
 -- What a declaration that the form takes means: numbers of 32 bits, constants of `0 1 X`, a scope for every ident, a keyword of the
 -- table. What its strings, indices and widths are stands in noting/proofs/Forming.
+use Rattle.form.specs.Form.{Form}
+use Rattle.lexis.specs.Took.{Took, after}
+use Rattle.std.specs.Prelude.{Ok, Err, Some, None}
 use mathlib.Core.Path.{◌≡◌, refl, subst}
 use mathlib.Core.Bool.{Bool, true, false}
 use mathlib.Core.List.{List, [], ◌∷◌}
@@ -20,11 +23,9 @@ use Rattle.signs.specs.Bytes.{is_constant}
 use Rattle.lexis.specs.Tokens.{token_at, inside_at, line_end, text_end, word, constant, number, meta, io, string}
 use Rattle.lexis.specs.declared.Reader.{Reader}
 use Rattle.lexis.specs.declared.Token.{Token}
-use Rattle.lexis.specs.declared.Step.{Step}
-use Rattle.lexis.specs.declared.Step.TheVariants as step
 use Rattle.brackets.specs.Words.{is_sort, is_mark, is_word, letters, numbered, kind_of}
 use Rattle.brackets.specs.Parts.{str, next_member, members_from, members_at, set_at}
-use Rattle.form.specs.Forms.{only, after, after_operand, after_ref, after_set, after_point, mark_at, ended, set_form, to_point, closed_point, point_at, source_form, link_of, link_from, link_at, option_at, is_label, label_of, scope_form, ident_form, is_payload, payload_of, attr_form, meta_form, io_form, operand_if, meta_if, wiring_form, named_form, cell_form, body_form, is_opening, open_form, form_at}
+use Rattle.form.specs.Forms.{only, mark_at, ended, set_form, closed_point, point_at, source_form, link_of, link_from, link_at, option_at, is_label, label_of, scope_form, ident_form, is_payload, payload_of, attr_form, meta_form, io_form, operand_if, meta_if, wiring_form, named_form, cell_form, body_form, is_opening, open_form, form_at}
 use Rattle.brackets.specs.declared.Str.{Str}
 use Rattle.brackets.specs.declared.Ref.{Ref}
 use Rattle.brackets.specs.declared.Operand.{Operand}
@@ -36,16 +37,6 @@ use Rattle.form.specs.declared.Payload.TheVariants as payload
 use Rattle.form.specs.declared.Decl.{Decl}
 use Rattle.form.specs.declared.Decl.TheVariants as decl
 use Rattle.form.specs.declared.Declared.{Declared}
-use Rattle.form.specs.declared.Form.{Form}
-use Rattle.form.specs.declared.Form.TheVariants as form
-use Rattle.brackets.specs.declared.Measured.{Measured}
-use Rattle.brackets.specs.declared.Measured.TheVariants as measured
-use Rattle.brackets.specs.declared.Taken.{Taken}
-use Rattle.brackets.specs.declared.Taken.TheVariants as taken
-use Rattle.form.specs.declared.Pointed.{Pointed}
-use Rattle.form.specs.declared.Pointed.TheVariants as pointed
-use Rattle.form.specs.declared.Linked.{Linked}
-use Rattle.form.specs.declared.Linked.TheVariants as linked
 use Rattle.saying.proofs.Tokens.{Nothing}
 use Rattle.accepting.proofs.Tokens.{MeantToken, MeantStep, token_meant, inside_meant}
 
@@ -72,17 +63,17 @@ DeclMeant text (decl.Io n w) = Nothing
 DeclMeant text (decl.Cell w) = is_kind w.kind ≡ true
 
 abbrev MeantForm : List ℕ → Form → Type 0
-MeantForm text (form.Took d r) = DeclMeant text d.decl
-MeantForm text form.End = Nothing
-MeantForm text (form.Refused g) = Nothing
+MeantForm text (Ok (Some (d, r))) = DeclMeant text d.decl
+MeantForm text (Ok None) = Nothing
+MeantForm text (Err g) = Nothing
 
-abbrev MeantPoint : Pointed → Type 0
-MeantPoint (pointed.Took p r) = PointMeant p
-MeantPoint (pointed.Refused g) = Nothing
+abbrev MeantPoint : Took Point → Type 0
+MeantPoint (Ok (p, r)) = PointMeant p
+MeantPoint (Err g) = Nothing
 
-abbrev MeantLink : Linked → Type 0
-MeantLink (linked.Took f r) = f.given ≡ true
-MeantLink (linked.Refused g) = Nothing
+abbrev MeantLink : Took Ref → Type 0
+MeantLink (Ok (f, r)) = f.given ≡ true
+MeantLink (Err g) = Nothing
 
 -- KEYWORDS: a word of the list is numbered from the first on
 numbered_most : (ws : List String) (ls : List ℕ) (n : ℕ) → (numbered ws ls n ≡ 0 → ⊥) → (n ≤ numbered ws ls n) × (numbered ws ls n < n + length ws)
@@ -104,42 +95,42 @@ module _ (text : List ℕ) where
   either b x y p q = picked (MeantForm text) b x y p q
 
   -- what follows a token of any sort, and one that passes a test
-  after_any : (s : Step) (go : Token → ℕ → Form) → MeantStep text s → ((t : Token) (k : ℕ) → MeantToken text t → MeantForm text (go t k)) → MeantForm text (after s go)
-  after_any (step.Took t r) go h f = f t r.next.at h
-  after_any (step.Refused g) go h f = refl
+  after_any : (s : Took Token) (go : Token → ℕ → Form) → MeantStep text s → ((t : Token) (k : ℕ) → MeantToken text t → MeantForm text (go t k)) → MeantForm text (after s go)
+  after_any (Ok (t, r)) go h f = f t r.next.at h
+  after_any (Err g) go h f = refl
 
-  after_only : (p : Token → Bool) (s : Step) (go : Token → ℕ → Form) → MeantStep text s → ((t : Token) (k : ℕ) → p t ≡ true → MeantToken text t → MeantForm text (go t k)) → MeantForm text (after (only p s) go)
-  after_only p (step.Took t r) go h f = bool_cases (p t) (λ e. rw e (f t r.next.at e h)) (λ e. rw e refl)
-  after_only p (step.Refused g) go h f = refl
+  after_only : (p : Token → Bool) (s : Took Token) (go : Token → ℕ → Form) → MeantStep text s → ((t : Token) (k : ℕ) → p t ≡ true → MeantToken text t → MeantForm text (go t k)) → MeantForm text (after (only p s) go)
+  after_only p (Ok (t, r)) go h f = bool_cases (p t) (λ e. rw e (f t r.next.at e h)) (λ e. rw e refl)
+  after_only p (Err g) go h f = refl
 
-  after_ref_lem : (l : Linked) (go : Ref → ℕ → Form) → ((r : Ref) (k : ℕ) → MeantForm text (go r k)) → MeantForm text (after_ref l go)
-  after_ref_lem (linked.Took f r) go g = g f r.next.at
-  after_ref_lem (linked.Refused x) go g = refl
+  after_ref_lem : (l : Took Ref) (go : Ref → ℕ → Form) → ((r : Ref) (k : ℕ) → MeantForm text (go r k)) → MeantForm text (after l go)
+  after_ref_lem (Ok (f, r)) go g = g f r.next.at
+  after_ref_lem (Err x) go g = refl
 
-  after_link : (l : Linked) (go : Ref → ℕ → Form) → MeantLink l → ((r : Ref) (k : ℕ) → r.given ≡ true → MeantForm text (go r k)) → MeantForm text (after_ref l go)
-  after_link (linked.Took f r) go h g = g f r.next.at h
-  after_link (linked.Refused x) go h g = refl
+  after_link : (l : Took Ref) (go : Ref → ℕ → Form) → MeantLink l → ((r : Ref) (k : ℕ) → r.given ≡ true → MeantForm text (go r k)) → MeantForm text (after l go)
+  after_link (Ok (f, r)) go h g = g f r.next.at h
+  after_link (Err x) go h g = refl
 
-  after_operand_lem : (o : Taken) (go : Operand → ℕ → Form) → ((o : Operand) (k : ℕ) → MeantForm text (go o k)) → MeantForm text (after_operand o go)
-  after_operand_lem (taken.Took o r) go f = f o r.next.at
-  after_operand_lem (taken.Refused g) go f = refl
+  after_operand_lem : (o : Took Operand) (go : Operand → ℕ → Form) → ((o : Operand) (k : ℕ) → MeantForm text (go o k)) → MeantForm text (after o go)
+  after_operand_lem (Ok (o, r)) go f = f o r.next.at
+  after_operand_lem (Err g) go f = refl
 
-  after_point_lem : (o : Pointed) (go : Point → ℕ → Form) → MeantPoint o → ((o : Point) (k : ℕ) → PointMeant o → MeantForm text (go o k)) → MeantForm text (after_point o go)
-  after_point_lem (pointed.Took o r) go h f = f o r.next.at h
-  after_point_lem (pointed.Refused g) go h f = refl
+  after_point_lem : (o : Took Point) (go : Point → ℕ → Form) → MeantPoint o → ((o : Point) (k : ℕ) → PointMeant o → MeantForm text (go o k)) → MeantForm text (after o go)
+  after_point_lem (Ok (o, r)) go h f = f o r.next.at h
+  after_point_lem (Err g) go h f = refl
 
-  after_set_lem : (o : Measured) (go : ℕ → ℕ → Form) → ((n k : ℕ) → MeantForm text (go n k)) → MeantForm text (after_set o go)
-  after_set_lem (measured.Closed n r) go f = f n r.next.at
-  after_set_lem (measured.Refused g) go f = refl
+  after_set_lem : (o : Took ℕ) (go : ℕ → ℕ → Form) → ((n k : ℕ) → MeantForm text (go n k)) → MeantForm text (after o go)
+  after_set_lem (Ok (n, r)) go f = f n r.next.at
+  after_set_lem (Err g) go f = refl
 
   -- points
-  to_point_lem : (p : Token → Bool) (s : Step) (go : Token → ℕ → Pointed) → MeantStep text s → ((t : Token) (k : ℕ) → p t ≡ true → MeantToken text t → MeantPoint (go t k)) → MeantPoint (to_point (only p s) go)
-  to_point_lem p (step.Took t r) go h f = bool_cases (p t) (λ e. rw e (f t r.next.at e h)) (λ e. rw e refl)
-  to_point_lem p (step.Refused g) go h f = refl
+  to_point_lem : (p : Token → Bool) (s : Took Token) (go : Token → ℕ → Took Point) → MeantStep text s → ((t : Token) (k : ℕ) → p t ≡ true → MeantToken text t → MeantPoint (go t k)) → MeantPoint (after (only p s) go)
+  to_point_lem p (Ok (t, r)) go h f = bool_cases (p t) (λ e. rw e (f t r.next.at e h)) (λ e. rw e refl)
+  to_point_lem p (Err g) go h f = refl
 
-  closed_point_lem : (p : Point) (s : Step) → PointMeant p → MeantPoint (closed_point p s)
-  closed_point_lem p (step.Took t r) h = h
-  closed_point_lem p (step.Refused g) h = refl
+  closed_point_lem : (p : Point) (s : Took Token) → PointMeant p → MeantPoint (closed_point p s)
+  closed_point_lem p (Ok (t, r)) h = h
+  closed_point_lem p (Err g) h = refl
 
   point_meant : (k : ℕ) → MeantPoint (point_at text k)
   unfolding point_at
@@ -149,13 +140,13 @@ module _ (text : List ℕ) where
       closed_point_lem _ (only (is_mark 41) (inside_at text k3)) (record { line = h.number e; column = g.number f }))))
 
   -- a link that must stand is given
-  link_of_lem : (s : Step) → MeantLink (link_of s)
-  link_of_lem (step.Took t r) = refl
-  link_of_lem (step.Refused g) = refl
+  link_of_lem : (s : Took Token) → MeantLink (link_of s)
+  link_of_lem (Ok (t, r)) = refl
+  link_of_lem (Err g) = refl
 
-  link_from_lem : (s : Step) → MeantLink (link_from text s)
-  link_from_lem (step.Took t r) = link_of_lem (only (is_sort meta) (token_at text r.next.at))
-  link_from_lem (step.Refused g) = refl
+  link_from_lem : (s : Took Token) → MeantLink (link_from text s)
+  link_from_lem (Ok (t, r)) = link_of_lem (only (is_sort meta) (token_at text r.next.at))
+  link_from_lem (Err g) = refl
 
   link_meant : (k : ℕ) → MeantLink (link_at text k)
   unfolding link_at
@@ -252,7 +243,7 @@ module _ (text : List ℕ) where
   form_meant k = after_any (inside_at text k) _ (inside_meant text k) (λ t k1 h. open_meant t k1)
 
 -- THE DECLARATION THAT IS TAKEN
-pub meant : (text : List ℕ) (k : ℕ) (d : Declared) (r : Reader) → form_at text k ≡ form.Took d r → DeclMeant text d.decl
+pub meant : (text : List ℕ) (k : ℕ) (d : Declared) (r : Reader) → form_at text k ≡ Ok (Some (d, r)) → DeclMeant text d.decl
 meant text k d r e = subst (MeantForm text) e (form_meant text k)
 
 -- THE MEMBERS OF A SET are references that are written
@@ -262,9 +253,9 @@ module _ (text : List ℕ) where
   members_from_lem zero k = refl
   members_from_lem (suc f) k = go (inside_at text k) refl (λ r. members_from_lem f r.next.at)
     where
-      go : (s : Step) → inside_at text k ≡ s → ((r : Reader) → every (λ (m : Ref). m.given) (members_from f text r.next.at) ≡ true) → every (λ (m : Ref). m.given) (members_from (suc f) text k) ≡ true
-      go (step.Refused g) e ih = rw (e, members_from) refl
-      go (step.Took t r) e ih = bool_cases (is_sort meta t) (λ i. rw (e, i, members_from) (ih r)) (λ i. rw (e, i, members_from) refl)
+      go : (s : Took Token) → inside_at text k ≡ s → ((r : Reader) → every (λ (m : Ref). m.given) (members_from f text r.next.at) ≡ true) → every (λ (m : Ref). m.given) (members_from (suc f) text k) ≡ true
+      go (Err g) e ih = rw (e, members_from) refl
+      go (Ok (t, r)) e ih = bool_cases (is_sort meta t) (λ i. rw (e, i, members_from) (ih r)) (λ i. rw (e, i, members_from) refl)
 
   pub members_given : (k : ℕ) → every (λ (m : Ref). m.given) (members_at text k) ≡ true
   members_given k = members_from_lem (suc (length text)) k

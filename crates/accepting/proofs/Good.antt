@@ -1,4 +1,5 @@
 -- THE TABLES THAT AN ACCEPTED READING LEAVES ARE GOOD, and show the netlist that the text says.
+use Rattle.std.specs.Prelude.{Result, Ok, Err}
 use mathlib.Core.Path.{◌≡◌, refl, ap, ◌∙◌}
 use mathlib.Core.Bool.{true, false, ◌||◌}
 use mathlib.Core.List.{List, ◌++◌}
@@ -16,13 +17,11 @@ use Rattle.netlist.specs.Rules.{valid}
 use Rattle.netlist.specs.Tables.{Tables, layout, rows_of, bits_of, rows_length, strings_length, bits_length}
 use Rattle.netlist.specs.View.{view}
 use Rattle.netlist.specs.Good.{short, check_of, netlist_in}
-use Rattle.netlist.specs.declared.Checked.TheVariants as checked
 use Rattle.netlist.proofs.Laying.{Long, view_layout, good_layout}
 use Rattle.netlist.proofs.Lengths.{layout_long}
 use Rattle.netlist.proofs.Slices.{tables_back}
 use Rattle.declaring.specs.Reading.{Reading, says, refused, reading}
 use Rattle.reading.specs.Outcome.{Outcome, left, read_of, work_length}
-use Rattle.reading.specs.declared.Read.TheVariants as read
 use Rattle.accepting.proofs.Accepted.{accepted_valid}
 
 -- a layout has the fixed lengths, whatever stands behind it
@@ -52,7 +51,7 @@ not_short T l xs ys zs =
 
 -- A VALID NETLIST laid in lent slices passes the check, and is shown by them
 module _ (N : Netlist) (v : valid N ≡ true) (xs ys zs : List ℕ) where
-  pub laid_good : check_of (rows_of (layout N) ++ xs) ((layout N).strings ++ ys) (bits_of (layout N) ++ zs) ≡ checked.Good
+  pub laid_good : check_of (rows_of (layout N) ++ xs) ((layout N).strings ++ ys) (bits_of (layout N) ++ zs) ≡ Ok tt
   unfolding check_of
   laid_good = rw (not_short (layout N) (layout_long N v) xs ys zs, tables_back (layout N) (layout_long N v) xs ys zs, good_layout N v)
 
@@ -64,13 +63,13 @@ pub record Accepted (text : List ℕ) (o : Outcome) : Type 0 where
   pub netlist : Netlist
   pub said : reading text ≡ says netlist
   pub valid : valid netlist ≡ true
-  pub good : check_of o.rows o.strings o.bits ≡ checked.Good
+  pub good : check_of o.rows o.strings o.bits ≡ Ok tt
   pub shown : netlist_in o.rows o.strings o.bits ≡ netlist
 
-never_accepted : {P : Type 0} (g : Refusal) → read.Refused g ≡ read.Accepted → P
+never_accepted : {P : Type 0} (g : Refusal) → ◌≡◌ {A = Result (Unit {0}) Refusal} (Err g) (Ok tt) → P
 never_accepted g e = let z : ◌≡◌ {A = ℕ} 0 1 = cc in absurd (omega arith)
 
-left_good : (text rows strings bits work : List ℕ) (r : Reading) → reading text ≡ r → (left rows strings bits work r).answer ≡ read.Accepted → Accepted text (left rows strings bits work r)
+left_good : (text rows strings bits work : List ℕ) (r : Reading) → reading text ≡ r → (left rows strings bits work r).answer ≡ Ok tt → Accepted text (left rows strings bits work r)
 unfolding over
 left_good text rows strings bits work (says N) f e =
     let v = accepted_valid text N f in
@@ -83,7 +82,7 @@ left_good text rows strings bits work (says N) f e =
     }
 left_good text rows strings bits work (refused g) f e = never_accepted g e
 
-pub accepted_good : (text rows strings bits work : List ℕ) → (read_of text rows strings bits work).answer ≡ read.Accepted → Accepted text (read_of text rows strings bits work)
+pub accepted_good : (text rows strings bits work : List ℕ) → (read_of text rows strings bits work).answer ≡ Ok tt → Accepted text (read_of text rows strings bits work)
 unfolding read_of
 accepted_good text rows strings bits work e = bool_cases (short rows strings bits || ltb (length work) work_length)
     (λ s. never_accepted (refusal 1 (at 0)) (rw s at e))
@@ -91,6 +90,6 @@ accepted_good text rows strings bits work e = bool_cases (short rows strings bit
 
 -- and every text that says a netlist is accepted where the slices have their lengths
 pub says_accepted : (text rows strings bits work : List ℕ) (N : Netlist) → reading text ≡ says N → short rows strings bits ≡ false → work_length ≤ length work
-    → (read_of text rows strings bits work).answer ≡ read.Accepted
+    → (read_of text rows strings bits work).answer ≡ Ok tt
 unfolding read_of
 says_accepted text rows strings bits work N e s w = rw (s, le-ltb (length work) work_length w, e)

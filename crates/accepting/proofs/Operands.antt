@@ -1,4 +1,6 @@
 -- The runs of an operand whose pieces resolve fit, and are longest.
+use Rattle.lexis.specs.Took.{Took}
+use Rattle.std.specs.Prelude.{Ok, Err}
 use mathlib.Core.Path.{◌≡◌, refl, ap}
 use mathlib.Core.Bool.{Bool, true, false, ◌&&◌}
 use mathlib.Core.List.{List, [], ◌∷◌, map}
@@ -16,8 +18,6 @@ use Rattle.signs.specs.Bytes.{is_constant}
 use Rattle.lexis.specs.Tokens.{token_at, inside_at, constant}
 use Rattle.lexis.specs.declared.Reader.{Reader}
 use Rattle.lexis.specs.declared.Token.{Token}
-use Rattle.lexis.specs.declared.Step.{Step}
-use Rattle.lexis.specs.declared.Step.TheVariants as step
 use Rattle.brackets.specs.Words.{is_sort}
 use Rattle.brackets.specs.Parts.{PartAt, is_part, base_of, part_of, next_part, parts_from, parts_of, parts_at}
 use Rattle.brackets.specs.declared.Base.{Base}
@@ -61,17 +61,17 @@ module _ (text : List ℕ) where
   parts_from_lem zero k = nothing
   parts_from_lem (suc f) k = go (inside_at text k) refl (inside_meant text k) (λ r. parts_from_lem f r.next.at)
     where
-      go : (s : Step) → inside_at text k ≡ s → MeantStep text s → ((r : Reader) → PartsMeant text (parts_from f text r.next.at)) → PartsMeant text (parts_from (suc f) text k)
-      go (step.Refused g) e h ih = rw (e, parts_from) nothing
-      go (step.Took t r) e h ih = bool_cases (is_part t) (λ i. rw (e, i, parts_from) (more (part_meant t h) (ih r))) (λ i. rw (e, i, parts_from) nothing)
+      go : (s : Took Token) → inside_at text k ≡ s → MeantStep text s → ((r : Reader) → PartsMeant text (parts_from f text r.next.at)) → PartsMeant text (parts_from (suc f) text k)
+      go (Err g) e h ih = rw (e, parts_from) nothing
+      go (Ok (t, r)) e h ih = bool_cases (is_part t) (λ i. rw (e, i, parts_from) (more (part_meant t h) (ih r))) (λ i. rw (e, i, parts_from) nothing)
 
   parts_meant : (o : Operand) → PartsMeant text (parts_at text o)
   unfolding parts_at
   parts_meant o = bool_cases o.given (λ e. rw e (go (token_at text o.at) (token_meant text o.at))) (λ e. rw e nothing)
     where
-      go : (s : Step) → MeantStep text s → PartsMeant text (parts_of text s)
-      go (step.Refused g) h = nothing
-      go (step.Took t r) h = bool_cases (is_part t) (λ i. rw i (more (part_meant t h) nothing)) (λ i. rw i (parts_from_lem (suc (length text)) r.next.at))
+      go : (s : Took Token) → MeantStep text s → PartsMeant text (parts_of text s)
+      go (Err g) h = nothing
+      go (Ok (t, r)) h = bool_cases (is_part t) (λ i. rw i (more (part_meant t h) nothing)) (λ i. rw i (parts_from_lem (suc (length text)) r.next.at))
 
 -- LONGEST: a bit before longest runs makes longest runs
 with_longest : (b : Bit) (rs : List Run) → longest rs ≡ true → longest (runs_with b rs) ≡ true

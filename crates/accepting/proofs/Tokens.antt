@@ -1,4 +1,6 @@
 -- What tokens mean. Document 01, Text: "`#` numbers: -2,147,483,648 to 2,147,483,647", held in 32 bits; "Constants are `0 1 X`".
+use Rattle.lexis.specs.Took.{Took}
+use Rattle.std.specs.Prelude.{Ok, Err, Option, Some, None}
 use mathlib.Core.Path.{◌≡◌, refl}
 use mathlib.Core.Bool.{Bool, true, false, ◌||◌}
 use mathlib.Core.List.{List, [], ◌∷◌}
@@ -16,11 +18,7 @@ use Rattle.signs.specs.Bytes.{is_constant, is_letter, is_feed, is_special}
 use Rattle.signs.specs.Pieces.{span_end, digits_from, numeral_at, suffix_at, quoted_at}
 use Rattle.lexis.specs.Tokens.{refused, plain, judged, single, signed_of, opens_placeholder, follows, constant_of, cell_of, named_from, io_of, string_step, number_of, meta_of, word_of, long_of, token_from, token_at, inside_at, constant, number, meta, placeholder}
 use Rattle.lexis.specs.declared.Token.{Token}
-use Rattle.lexis.specs.declared.Step.{Step}
-use Rattle.lexis.specs.declared.Step.TheVariants as step
 use Rattle.signs.specs.declared.pieces.Numeral.{Numeral}
-use Rattle.signs.specs.declared.pieces.Quoted.{Quoted}
-use Rattle.signs.specs.declared.pieces.Quoted.TheVariants.{Closed, Malformed}
 use Rattle.brackets.specs.Words.{is_sort}
 use Rattle.saying.proofs.Tokens.{Nothing}
 use Rattle.accepting.proofs.Bytes.{span_part}
@@ -30,9 +28,9 @@ pub record MeantToken (text : List ℕ) (t : Token) : Type 0 where
   pub number : is_sort number t ≡ true → t.value < 4294967296
   pub characters : is_sort constant t ≡ true → every is_constant (part t.from t.size text) ≡ true
 
-abbrev pub MeantStep : List ℕ → Step → Type 0
-MeantStep text (step.Refused g) = Nothing
-MeantStep text (step.Took t r) = MeantToken text t
+abbrev pub MeantStep : List ℕ → Took Token → Type 0
+MeantStep text (Err g) = Nothing
+MeantStep text (Ok (t, r)) = MeantToken text t
 
 -- a token of another sort
 other : (text : List ℕ) (t : Token) → is_sort number t ≡ false → is_sort constant t ≡ false → MeantToken text t
@@ -50,10 +48,10 @@ signed_most true n h = bool_cases (ltb 0 n) (λ e. rw e (let p = ltb-true 0 n e 
 signed_most false n h = omega arith
 
 module _ (text : List ℕ) where
-  either : (b : Bool) (x y : Step) → MeantStep text x → MeantStep text y → MeantStep text (pick b x y)
+  either : (b : Bool) (x y : Took Token) → MeantStep text x → MeantStep text y → MeantStep text (pick b x y)
   either b x y p q = picked (MeantStep text) b x y p q
 
-  judged_meant : (malformed large : Bool) (k : ℕ) (s : Step) → MeantStep text s → MeantStep text (judged malformed large k s)
+  judged_meant : (malformed large : Bool) (k : ℕ) (s : Took Token) → MeantStep text s → MeantStep text (judged malformed large k s)
   judged_meant m l k s n = either m (refused 5 k) (pick l (refused 6 k) s) refl (either l (refused 6 k) s refl n)
 
   single_meant : (sort k from : ℕ) (i : Numeral) (value end : ℕ) → MeantToken text (plain sort k value 0 0) → MeantStep text (single sort k from i value end)
@@ -75,12 +73,12 @@ module _ (text : List ℕ) where
       either (opens_placeholder text i.end) _ _ (single_meant placeholder k (k + 1) i i.value (i.end + 2) (other text _ refl refl))
       (judged_meant (eqb i.end (k + 1) || (o.broken || (w.broken || c.broken))) (i.large || (o.large || (w.large || c.large))) k _ (other text _ refl refl))
 
-  named_meant : (k : ℕ) (q : Quoted) → MeantStep text (named_from text k q)
-  named_meant k (Closed n e) =
+  named_meant : (k : ℕ) (q : Option (ℕ × ℕ)) → MeantStep text (named_from text k q)
+  named_meant k (Some (n, e)) =
       let o = suffix_at text 43 e in
       let w = suffix_at text 58 e in
       judged_meant (o.broken || w.broken) (o.large || w.large) k _ (other text _ refl refl)
-  named_meant k Malformed = refl
+  named_meant k None = refl
 
   io_meant : (k : ℕ) → MeantStep text (io_of text k)
   unfolding io_of
@@ -98,9 +96,9 @@ module _ (text : List ℕ) where
       (single_meant number k (k + 2) m (signed_of true m.value) m.end (record { number = λ p. signed_most true m.value (numeral_most 2147483648 text (k + 2)); characters = λ p. never_both p refl }))
       (single_meant number k (k + 1) i (signed_of false i.value) i.end (record { number = λ p. signed_most false i.value (let h = numeral_most 2147483647 text (k + 1) in omega arith); characters = λ p. never_both p refl }))
 
-  string_meant : (k : ℕ) (q : Quoted) → MeantStep text (string_step k q)
-  string_meant k (Closed n e) = other text _ refl refl
-  string_meant k Malformed = refl
+  string_meant : (k : ℕ) (q : Option (ℕ × ℕ)) → MeantStep text (string_step k q)
+  string_meant k (Some (n, e)) = other text _ refl refl
+  string_meant k None = refl
 
   long_meant : (k b : ℕ) → MeantStep text (long_of text k b)
   unfolding long_of word_of meta_of

@@ -12,18 +12,3 @@ pub enum Job {
     Pads,
     Pad,
 }
-
-// Standard output, or standard error.
-#[derive(Clone, Copy)]
-pub(crate) enum Stream {
-    Output,
-    Error,
-}
-
-// Where what is refused is told: the lines of a check are its answer.
-pub(crate) fn told_to(job: Job) -> Stream {
-    match job {
-        Job::Check => Stream::Output,
-        _ => Stream::Error,
-    }
-}

@@ -1,28 +1,40 @@
-// Words of tables, and the end of an answer.
+// The tables of a netlist, and words of them.
 use std::io;
-use std::io::Write;
 
-fn wide(word: u32) -> usize {
-    word as usize
+#[derive(Clone, Copy)]
+pub(crate) struct Tables<'a> {
+    pub rows: &'a [u32],
+    pub strings: &'a [u8],
+    pub trits: &'a [u8],
 }
 
-// The word at a place, and 0 past the end.
-pub(crate) fn word_at(words: &[u32], at: usize) -> usize {
-    if at < words.len() {
-        return wide(words[at]);
+impl<'a> Tables<'a> {
+    // The word at a place of the rows, and 0 past their end.
+    pub(crate) fn word(self, at: usize) -> usize {
+        self.rows.get(at).map_or(0, |word| *word as usize)
     }
-    0
-}
 
-// Standard output may be closed or full; an answer cut short must not be taken for a whole one.
-pub(crate) fn tell_written<E: Write>(err: &mut E, written: io::Result<()>) -> io::Result<()> {
-    if written.is_ok() {
-        return Ok(());
+    // A field of a pad's row, and 0 past the last row.
+    pub(crate) fn pad_word(self, row: usize, field: usize) -> usize {
+        if row < 64 && field < 3 {
+            return self.word(9219 + 3 * row + field);
+        }
+        0
     }
-    err.write_all(b"grackle: the answer could not be written whole\n")
-}
 
-// The rows of good tables name strings that there are; of others an answer is cut short.
-pub(crate) fn cut_short() -> io::Result<()> {
-    Err(io::Error::from(io::ErrorKind::InvalidData))
+    // A field of a cell's row, and 0 past the last row.
+    pub(crate) fn cell_word(self, row: usize, field: usize) -> usize {
+        if row < 512 && field < 9 {
+            return self.word(9411 + 9 * row + field);
+        }
+        0
+    }
+
+    // The rows of good tables name strings that there are; of others an answer is cut short.
+    pub(crate) fn string(self, start: usize, size: usize) -> io::Result<&'a [u8]> {
+        self.strings
+            .get(start..)
+            .and_then(|behind| behind.get(..size))
+            .ok_or(io::Error::from(io::ErrorKind::InvalidData))
+    }
 }

@@ -1,4 +1,5 @@
 -- What the tables say of references is what the notes say; and how the walk over the members of a set goes.
+use Rattle.std.specs.Prelude.{Some, None}
 use mathlib.Core.Path.{◌≡◌, refl, sym, ap, ◌∙◌}
 use mathlib.Core.Bool.{Bool, true, false, not, ◌&&◌}
 use mathlib.Core.List.{List, [], ◌∷◌, ◌++◌}
@@ -14,7 +15,6 @@ use Rattle.brackets.specs.Parts.{members_at, members_from}
 use Rattle.brackets.specs.Walks.{tour_at, tour_step, members_left, members_on}
 use Rattle.brackets.specs.declared.Ref.{Ref}
 use Rattle.brackets.specs.declared.Tour.{Tour}
-use Rattle.brackets.specs.declared.Toured.TheVariants as toured
 use Rattle.brackets.proofs.Steps.{tour_starts, tour_goes}
 use Rattle.netlist.specs.Rules.{refers, is_member}
 use Rattle.saying.specs.Values.{row_of}
@@ -22,7 +22,6 @@ use Rattle.saying.specs.Notes.{MetaNote, meta_note, Maps}
 use Rattle.asking.specs.References.{allowed, kinds_said, misnamed, first_misnamed, refers_in, misnamed_in}
 use Rattle.asking.specs.declared.Asks.{Asks}
 use Rattle.asking.specs.declared.Asks.TheVariants.{Member}
-use Rattle.asking.specs.declared.Misnaming.TheVariants.{At, Nowhere}
 use Rattle.asking.proofs.TokenLaws.{members_small}
 use Rattle.asking.proofs.RowLaws.{behind_note, row_first}
 
@@ -61,11 +60,11 @@ misnamed_said asks rows metas n r ns numbers e l m h = rw (m.is r.index h) (ap (
 
 -- THE WALK over the members of a set
 module _ (wrong : Ref → Bool) (text : List ℕ) (w : Tour) where
-  module _ (m : Ref) (next : Tour) (e : tour_step text w ≡ toured.Member m next) where
+  module _ (m : Ref) (next : Tour) (e : tour_step text w ≡ Some (m, next)) where
     member_next : members_left text w ≡ m ∷ members_left text next
     member_next = tour_goes text w ∙ ap (members_on text) e
 
-    pub member_wrong : wrong m ≡ true → At m.place ≡ first_misnamed wrong (members_left text w)
+    pub member_wrong : wrong m ≡ true → Some m.place ≡ first_misnamed wrong (members_left text w)
     unfolding first_misnamed
     member_wrong h = rw member_next (rw (h, first_misnamed))
 
@@ -73,13 +72,9 @@ module _ (wrong : Ref → Bool) (text : List ℕ) (w : Tour) where
     unfolding first_misnamed
     member_right h = rw member_next (rw (h, first_misnamed))
 
-  pub members_done : tour_step text w ≡ toured.Done → Nowhere ≡ first_misnamed wrong (members_left text w)
+  pub members_done : tour_step text w ≡ None → None ≡ first_misnamed wrong (members_left text w)
   unfolding first_misnamed
   members_done e = rw (tour_goes text w ∙ ap (members_on text) e)
-
-  pub members_none : w.left ≤ 0 → Nowhere ≡ first_misnamed wrong (members_left text w)
-  unfolding first_misnamed members_from
-  members_none h = let z : w.left ≡ 0 = omega arith in rw z
 
 -- two tests that agree on the members find the same
 pub firsts_agree : (p q : Ref → Bool) → ((r : Ref) → r.index < 65536 → p r ≡ q r) → (rs : List Ref) → every (λ r. ltb r.index 65536) rs ≡ true → first_misnamed p rs ≡ first_misnamed q rs

@@ -1,5 +1,6 @@
 -- What metadata references name. RULE 10: "metadata reference missing, later or of the wrong kind", at the first such.
-use Rattle.std.specs.Prelude.{Bool, true, false, not, ◌&&◌, List, [], ◌∷◌, map, ℕ, ◌-◌, ◌*◌, leb, get_or}
+use Rattle.ground.specs.declared.Place.{Place}
+use Rattle.std.specs.Prelude.{Bool, true, false, not, ◌&&◌, List, [], ◌∷◌, map, ℕ, ◌-◌, ◌*◌, leb, get_or, Option, Some, None}
 use Rattle.ground.specs.Choice.{pick}
 use Rattle.brackets.specs.declared.Ref.{Ref}
 use Rattle.netlist.specs.Netlist.{is_scope}
@@ -8,8 +9,6 @@ use Rattle.saying.specs.Values.{row_of}
 use Rattle.saying.specs.Notes.{MetaNote, metas_said}
 use Rattle.asking.specs.declared.Asks.{Asks}
 use Rattle.asking.specs.declared.Asks.TheVariants.{Any, Member, Scope, Source}
-use Rattle.asking.specs.declared.Misnaming.{Misnaming}
-use Rattle.asking.specs.declared.Misnaming.TheVariants.{At, Nowhere}
 
 -- the kinds that a reference may name
 abbrev pub allowed : Asks → ℕ → Bool
@@ -26,9 +25,9 @@ kinds_said ns = map (λ m. m.kind) (metas_said ns)
 abbrev pub misnamed : (ℕ → Bool) → List ℕ → List ℕ → Ref → Bool
 misnamed p kinds numbers r = r.given && not (refers p kinds (row_of numbers r.index))
 
-unfoldable pub first_misnamed : (Ref → Bool) → List Ref → Misnaming
-first_misnamed wrong [] = Nowhere
-first_misnamed wrong (r ∷ rs) = elim (wrong r) [ true ↦ At r.place | false ↦ first_misnamed wrong rs ]
+unfoldable pub first_misnamed : (Ref → Bool) → List Ref → Option Place
+first_misnamed wrong [] = None
+first_misnamed wrong (r ∷ rs) = elim (wrong r) [ true ↦ Some r.place | false ↦ first_misnamed wrong rs ]
 
 -- the same by the tables: a word of the map is a row plus one, and a row of metadata begins with its kind
 abbrev pub ref_in : List ℕ → Ref → ℕ

@@ -15,10 +15,3 @@ pub enum Asks {
     Scope,
     Source,
 }
-
-// The place of the first reference that names nothing, or nothing that it may name.
-#[derive(Clone, Copy)]
-pub enum Misnaming {
-    At(Place),
-    Nowhere,
-}

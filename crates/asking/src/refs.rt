@@ -2,7 +2,6 @@
 ghost use Rattle.std.specs.Prelude.{◌≡◌, List, ℕ, ◌<◌, ◌≤◌, length, get_or};
 ghost use Rattle.ground.specs.Lists.{joined};
 ghost use Rattle.ground.specs.Regions.{pad};
-ghost use Rattle.signs.specs.Bytes.{table};
 ghost use Rattle.brackets.specs.Parts.{members_at};
 ghost use Rattle.netlist.specs.Netlist.{is_scope};
 ghost use Rattle.netlist.specs.Rules.{is_member};
@@ -11,8 +10,10 @@ ghost use Rattle.saying.specs.Notes.{MetaNote, meta_note, Maps};
 ghost use Rattle.asking.specs.References.{allowed, kinds_said, misnamed, first_misnamed, ref_in, refers_in, misnamed_in};
 ghost use Rattle.asking.specs.declared.Asks.TheVariants.{Member};
 
-use crate::{Asks, Misnaming};
-use brackets::{Members, Ref, Toured};
+use crate::Asks;
+use brackets::{Members, Ref};
+use ground::Place;
+use signs::classes::Classes;
 use tours::{tour_of, tour_step};
 use words::word_at;
 
@@ -93,30 +94,23 @@ pub fn misnames(map: &[u32], metas: &[u32], n: usize, r: Ref, asks: Asks) -> boo
 
 // The first member of a set that names nothing, or a set.
 pub fn first_misnamed_member(
-    t: &[u8; 256],
+    t: &Classes,
     text: &[u8],
     members: Members,
     map: &[u32],
     metas: &[u32],
     n: usize,
-) -> Misnaming
-    requires { (t.now ≡ table) × (length text.now ≤ 65536) }
+) -> Option<Place>
+    requires { length text.now ≤ 65536 }
     ensures { (result ≡ first_misnamed (misnamed_in Member map.now metas.now n) (members_at text.now members.at)) × ((ns : List MetaNote) (numbers : List ℕ) → metas.now ≡ pad 8192 (joined meta_note ns) → n ≡ length ns → Maps numbers map.now → result ≡ first_misnamed (misnamed is_member (kinds_said ns) numbers) (members_at text.now members.at)) }
 {
     let mut tour = tour_of(text, members);
-    while 0 < tour.left {
-        match tour_step(t, text, tour) {
-            Toured::Member(m, next) => {
-                let place = m.place;
-                if misnames(map, metas, n, m, Asks::Member) {
-                    return Misnaming::At(place);
-                }
-                tour = next;
-            }
-            Toured::Done => {
-                return Misnaming::Nowhere;
-            }
+    while let Some((m, next)) = tour_step(t, text, tour) {
+        let place = m.place;
+        if misnames(map, metas, n, m, Asks::Member) {
+            return Some(place);
         }
+        tour = next;
     }
-    Misnaming::Nowhere
+    None
 }

@@ -14,11 +14,9 @@ pub fn start_rows(rows: &[u32], n: usize, starts: &mut [u32])
     ensures { starts.new ≡ sets starts.old 0 (starts_from 0 n rows.now) }
 {
     let mut start: u32 = 0;
-    let mut i: usize = 0;
-    while i < n {
+    for i in 0..n {
         starts[i] = start;
         start += rows[i * 9 + 1];
-        i += 1;
     }
 }
 
@@ -38,10 +36,8 @@ pub fn count_inputs(rows: &[u32], n: usize) -> u32
     ensures { result ≡ rows_total input_in n rows.now }
 {
     let mut count: u32 = 0;
-    let mut i: usize = 0;
-    while i < n {
+    for i in 0..n {
         count += input_width(rows[i * 9], rows[i * 9 + 1]);
-        i += 1;
     }
     count
 }
@@ -51,10 +47,8 @@ pub fn copy_bits(from: &[u8], at: usize, size: usize, to: &mut [u8], place: usiz
     requires { (at + size ≤ length from.now) × (place + size ≤ length to.old) }
     ensures { to.new ≡ sets to.old place (part at size from.now) }
 {
-    let mut i: usize = 0;
-    while i < size {
+    for i in 0..size {
         to[place + i] = from[at + i];
-        i += 1;
     }
 }
 
@@ -65,13 +59,11 @@ pub fn assign(rows: &[u32], n: usize, ins: &[u8], values: &mut [u8])
 {
     let mut start: usize = 0;
     let mut at: usize = 0;
-    let mut i: usize = 0;
-    while i < n {
+    for i in 0..n {
         let w = rows[i * 9 + 1] as usize;
         let taken = input_width(rows[i * 9], rows[i * 9 + 1]) as usize;
         copy_bits(ins, at, taken, values, start);
         start += w;
         at += taken;
-        i += 1;
     }
 }

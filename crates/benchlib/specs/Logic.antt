@@ -1,31 +1,27 @@
 -- All that a caller in C sees after an evaluation, a translation or a run: the answer as numbers, with refusal number 0 where nothing is
 -- refused, and every byte of the room and of the work space.
-use Rattle.std.specs.Prelude.{ℕ, List}
+use Rattle.ground.specs.declared.Refusal.{Refusal}
+use Rattle.std.specs.Prelude.{ℕ, List, Result, Ok, Err}
 use Rattle.evaluating.specs.Outcome as evaluating
-use Rattle.evaluating.specs.declared.Evaluated.{Evaluated}
-use Rattle.evaluating.specs.declared.Evaluated.TheVariants as evaluated
 use Rattle.translating.specs.Outcome as translating
-use Rattle.translating.specs.declared.Translated.{Translated}
-use Rattle.translating.specs.declared.Translated.TheVariants as translated
 use Rattle.loadlist.specs.Run as running
-use Rattle.loadlist.specs.declared.Ran.{Ran}
-use Rattle.loadlist.specs.declared.Ran.TheVariants as ran
 use Rattle.benchlib.specs.declared.Gave.{Gave}
 
 abbrev pub gave_of : ℕ → ℕ → ℕ → Gave
 gave_of count number place = record { count = count; number = number; place = place }
 
-abbrev pub told_evaluation : Evaluated → Gave
-told_evaluation (evaluated.Outputs n) = gave_of n 0 0
-told_evaluation (evaluated.Refused g) = gave_of 0 g.number g.place.at
+abbrev pub told : Result ℕ Refusal → Gave
+told (Ok n) = gave_of n 0 0
+told (Err g) = gave_of 0 g.number g.place.at
 
-abbrev pub told_translation : Translated → Gave
-told_translation (translated.Records n) = gave_of n 0 0
-told_translation (translated.Refused g) = gave_of 0 g.number g.place.at
+abbrev pub told_evaluation : Result ℕ Refusal → Gave
+told_evaluation = told
 
-abbrev pub told_run : Ran → Gave
-told_run (ran.Outputs n) = gave_of n 0 0
-told_run (ran.Refused g) = gave_of 0 g.number g.place.at
+abbrev pub told_translation : Result ℕ Refusal → Gave
+told_translation = told
+
+abbrev pub told_run : Result ℕ Refusal → Gave
+told_run = told
 
 pub record After : Type 0 where
   pub told : Gave

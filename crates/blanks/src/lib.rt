@@ -22,10 +22,8 @@ fn bytes_ahead(pool: &[u8], i: usize) -> u8
     ensures { result ≡ 0 → blank (drop (i + 1024) pool.now) ≡ blank (drop i pool.now) }
 {
     let mut most: u8 = 0;
-    let mut k: usize = 0;
-    while k < 1024 {
+    for k in 0..1024 {
         most = larger(most, pool[i + k]);
-        k += 1;
     }
     most
 }
@@ -39,6 +37,7 @@ fn past_bytes(pool: &[u8], from: usize) -> usize
         return from;
     }
     let mut i = from;
+    // A step passes 1,024 bytes or ends, so this is no walk by ones.
     while 1024 <= size - i {
         if bytes_ahead(pool, i) != 0 {
             return i;
@@ -71,10 +70,8 @@ fn words_ahead(table: &[u32], i: usize) -> u32
     ensures { result ≡ 0 → blank (drop (i + 128) table.now) ≡ blank (drop i table.now) }
 {
     let mut count: u32 = 0;
-    let mut k: usize = 0;
-    while k < 128 {
+    for k in 0..128 {
         count += some_word(table[i + k]);
-        k += 1;
     }
     count
 }
@@ -87,6 +84,7 @@ fn past_words(table: &[u32], from: usize) -> usize
         return from;
     }
     let mut i = from;
+    // A step passes 128 words or ends.
     while 128 <= size - i {
         if words_ahead(table, i) != 0 {
             return i;

@@ -1,5 +1,8 @@
 -- A part of a text of at most 65,536 bytes is no wider than 65,536 times 65,536.
 -- Assumes nothing.
+use Rattle.ground.proofs.Pairs.{ok_first}
+use Rattle.lexis.specs.Took.{Took}
+use Rattle.std.specs.Prelude.{Ok, Err, Option, Some, None}
 use mathlib.Core.Path.{◌≡◌, refl, subst}
 use mathlib.Core.Bool.{Bool, true, false, ◌||◌}
 use mathlib.Core.List.{List, [], ◌∷◌}
@@ -18,12 +21,8 @@ use Rattle.lexis.specs.Tokens.{refused, token, plain, written, judged, single, s
 use Rattle.ground.specs.declared.Place.{Place}
 use Rattle.lexis.specs.declared.Reader.{Reader}
 use Rattle.lexis.specs.declared.Token.{Token}
-use Rattle.lexis.specs.declared.Step.{Step}
-use Rattle.lexis.specs.declared.Step.TheVariants as step
 use Rattle.signs.specs.declared.pieces.Numeral.{Numeral}
 use Rattle.signs.specs.declared.pieces.Suffix.{Suffix}
-use Rattle.signs.specs.declared.pieces.Quoted.{Quoted}
-use Rattle.signs.specs.declared.pieces.Quoted.TheVariants.{Closed, Malformed}
 use Rattle.signs.proofs.Laws.{span_most}
 use Rattle.brackets.specs.Words.{is_sort}
 use Rattle.brackets.specs.Parts.{is_part, str, part_of, part_width, widest, Narrow, parted_of, next_part}
@@ -59,24 +58,24 @@ narrow_of t s w c = record { width = λ _. go (leb 4 t.parts) (is_sort constant 
     go false false = omega arith
 
 -- each token that the step takes
-record AllNarrow (s : Step) : Type 0 where
-  took : (t : Token) (r : Reader) → s ≡ step.Took t r → Narrow t
+record AllNarrow (s : Took Token) : Type 0 where
+  took : (t : Token) (r : Reader) → s ≡ Ok (t, r) → Narrow t
 
 none_narrow : (n k : ℕ) → AllNarrow (refused n k)
 none_narrow n k = record { took = λ t r e. let z : ◌≡◌ {A = ℕ} 0 1 = cc in absurd (omega arith) }
 
-one_narrow : (t : Token) (r : Reader) → Narrow t → AllNarrow (step.Took t r)
-one_narrow t r n = record { took = λ u q e. let same : t ≡ u = cc in subst Narrow same n }
+one_narrow : (t : Token) (r : Reader) → Narrow t → AllNarrow (Ok (t, r))
+one_narrow t r n = record { took = λ u q e. let same : t ≡ u = ok_first e in subst Narrow same n }
 
 -- a token that is no part
-other_narrow : (t : Token) (r : Reader) → is_part t ≡ false → AllNarrow (step.Took t r)
+other_narrow : (t : Token) (r : Reader) → is_part t ≡ false → AllNarrow (Ok (t, r))
 other_narrow t r f = one_narrow t r (record { width = λ p. never_both p f })
 
 -- a choice between two steps
-either : (b : Bool) {x y : Step} → AllNarrow x → AllNarrow y → AllNarrow (pick b x y)
+either : (b : Bool) {x y : Took Token} → AllNarrow x → AllNarrow y → AllNarrow (pick b x y)
 either b {x} {y} p q = picked AllNarrow b x y p q
 
-judged_narrow : (malformed large : Bool) (k : ℕ) {s : Step} → AllNarrow s → AllNarrow (judged malformed large k s)
+judged_narrow : (malformed large : Bool) (k : ℕ) {s : Took Token} → AllNarrow s → AllNarrow (judged malformed large k s)
 judged_narrow m l k n = either m (none_narrow 5 k) (either l (none_narrow 6 k) n)
 
 single_narrow : (sort k from : ℕ) (i : Numeral) (value end : ℕ) → is_part (plain sort k value 0 0) ≡ false → AllNarrow (single sort k from i value end)
@@ -108,12 +107,12 @@ cell_narrow text k =
     either (opens_placeholder text i.end) (single_narrow placeholder k (k + 1) i i.value (i.end + 2) refl)
     (cell_from_narrow k i o w c (suffix_most text 58 o.end) (suffix_most text 42 w.end))
 
-named_narrow : (text : List ℕ) (k : ℕ) (q : Quoted) → AllNarrow (named_from text k q)
-named_narrow text k (Closed n e) =
+named_narrow : (text : List ℕ) (k : ℕ) (q : Option (ℕ × ℕ)) → AllNarrow (named_from text k q)
+named_narrow text k (Some (n, e)) =
     let o = suffix_at text 43 e in
     let w = suffix_at text 58 e in
     judged_narrow (o.broken || w.broken) (o.large || w.large) k (other_narrow _ _ refl)
-named_narrow text k Malformed = none_narrow 5 k
+named_narrow text k None = none_narrow 5 k
 
 io_narrow : (text : List ℕ) (k : ℕ) → AllNarrow (io_of text k)
 unfolding io_of
@@ -130,9 +129,9 @@ number_narrow text k =
     either (eqb (get_or text (k + 1) 0) 45) (single_narrow number k (k + 2) m (signed_of true m.value) m.end refl)
     (single_narrow number k (k + 1) i (signed_of false i.value) i.end refl)
 
-string_narrow : (k : ℕ) (q : Quoted) → AllNarrow (string_step k q)
-string_narrow k (Closed n e) = other_narrow _ _ refl
-string_narrow k Malformed = none_narrow 5 k
+string_narrow : (k : ℕ) (q : Option (ℕ × ℕ)) → AllNarrow (string_step k q)
+string_narrow k (Some (n, e)) = other_narrow _ _ refl
+string_narrow k None = none_narrow 5 k
 
 long_narrow : (text : List ℕ) (k b : ℕ) → length text ≤ 65536 → AllNarrow (long_of text k b)
 unfolding long_of word_of meta_of
@@ -157,21 +156,21 @@ from_narrow text k (b ∷ s) h =
     (either (follows text k) (none_narrow 5 k) (long_narrow text k b h)))))
 
 module _ (text : List ℕ) (k : ℕ) (h : length text ≤ 65536) where
-  pub token_narrow : (t : Token) (r : Reader) → token_at text k ≡ step.Took t r → Narrow t
+  pub token_narrow : (t : Token) (r : Reader) → token_at text k ≡ Ok (t, r) → Narrow t
   unfolding token_at
   token_narrow t r e = (from_narrow text _ _ h).took t r e
 
-  pub inside_narrow : (t : Token) (r : Reader) → inside_at text k ≡ step.Took t r → Narrow t
+  pub inside_narrow : (t : Token) (r : Reader) → inside_at text k ≡ Ok (t, r) → Narrow t
   unfolding inside_at
   inside_narrow t r e = (from_narrow text _ _ h).took t r e
 
   -- the part that stands next between brackets
-  pub next_narrow : (p : Part) (place : Place) (r : Reader) → next_part text k ≡ parted.Took p place r → part_width p ≤ widest
+  pub next_narrow : (p : Part) (place : Place) (r : Reader) → next_part text k ≡ Ok (parted.Took p place, r) → part_width p ≤ widest
   unfolding next_part
   next_narrow p place r e = go (inside_at text k) inside_narrow e
     where
-      go : (s : Step) → ((t : Token) (r : Reader) → s ≡ step.Took t r → Narrow t) → parted_of s ≡ parted.Took p place r → part_width p ≤ widest
-      go (step.Refused g) n e = let z : ◌≡◌ {A = ℕ} 0 1 = cc in absurd (omega arith)
-      go (step.Took t q) n e = bool_cases (is_part t)
-          (λ is. let same : part_of t ≡ p = (let f = rw is at e in cc) in subst (λ (x : Part). part_width x ≤ widest) same ((n t q refl).width is))
-          (λ not. let f = rw not at e in let z : ◌≡◌ {A = ℕ} 0 1 = cc in absurd (omega arith))
+      go : (s : Took Token) → ((t : Token) (r : Reader) → s ≡ Ok (t, r) → Narrow t) → parted_of s ≡ Ok (parted.Took p place, r) → part_width p ≤ widest
+      go (Err g) n e = let z : ◌≡◌ {A = ℕ} 0 1 = cc in absurd (omega arith)
+      go (Ok (t, q)) n e = bool_cases (is_part t)
+          (λ is. let same : part_of t ≡ p = (let f = rw is at e in let g : parted.Took (part_of t) t.place ≡ parted.Took p place = ok_first f in cc g) in subst (λ (x : Part). part_width x ≤ widest) same ((n t q refl).width is))
+          (λ not. let f = rw not at e in let g : parted.Other t ≡ parted.Took p place = ok_first f in let z : ◌≡◌ {A = ℕ} 0 1 = cc g in absurd (omega arith))

@@ -3,7 +3,7 @@
 // walked over in walks and tours, all above it; the tokens stand below.
 #![tactic(auto)]
 
-use ground::{Place, Refusal};
+use ground::Place;
 use lexis::{Reader, Token};
 
 // A string or a constant in the text: the place of its first byte, and how many bytes or bits it means.
@@ -58,33 +58,18 @@ pub struct Members {
     pub count: u64,
 }
 
-// What is read between brackets, measured: the width of a concatenation, or the members of a set.
-#[derive(Clone, Copy)]
-pub enum Measured {
-    Closed(u64, Reader),
-    Refused(Refusal),
-}
-
-#[derive(Clone, Copy)]
-pub enum Taken {
-    Took(Operand, Reader),
-    Refused(Refusal),
-}
-
-// What stands next between the brackets of an operand: a part with its place, another token, or a refusal.
+// What stands next between the brackets of an operand: a part with its place, or another token.
 #[derive(Clone, Copy)]
 pub enum Parted {
-    Took(Part, Place, Reader),
-    Other(Token, Reader),
-    Refused(Refusal),
+    Took(Part, Place),
+    Other(Token),
 }
 
-// What stands next between the brackets of a set: a member, another token, or a refusal.
+// What stands next between the brackets of a set: a member, or another token.
 #[derive(Clone, Copy)]
 pub enum Membered {
-    Took(Ref, Reader),
-    Other(Token, Reader),
-    Refused(Refusal),
+    Took(Ref),
+    Other(Token),
 }
 
 // Where a walk over the parts of an operand stands: past them, before the one part, or between brackets, where at most `left` parts come.
@@ -95,23 +80,9 @@ pub enum Walk {
     Within(Reader, usize),
 }
 
-// A step of that walk: a part with its place and the moved walk, or none.
-#[derive(Clone, Copy)]
-pub enum Walked {
-    Part(Part, Place, Walk),
-    Done,
-}
-
 // Where a walk over the members of a set stands, at most `left` of them before it.
 #[derive(Clone, Copy)]
 pub struct Tour {
     pub next: Reader,
     pub left: usize,
-}
-
-// A step of that walk.
-#[derive(Clone, Copy)]
-pub enum Toured {
-    Member(Ref, Tour),
-    Done,
 }

@@ -5,133 +5,68 @@
 // read in work space one word short. Where an answer is another, that is told.
 use crate::numbers::number;
 use crate::refusals::tell_refusals;
-use crate::rooms::{accepted, byte_at, is_at_front, lent};
-use crate::tables::{lent_rows, lent_strings, lent_trits, lent_work, short_work, text_room};
-use crate::telling::tell_unless;
-use checking::{check_tables, lookup_io};
-use finding::find;
-use ground::{Place, Refusal};
-use netlist::{Checked, Found};
-use printing::{Printed, print_text};
+use crate::rooms::{all, at_front};
+use crate::tables::{
+    Tables, lent_rows, lent_strings, lent_trits, lent_work, short_work, text_room,
+};
+use crate::told::tell_unless;
+use finding::split_once;
+use ground::Refusal;
 use reader::read_text;
-use reading::Read;
 use std::io;
 use std::io::Write;
 use tellrefused::tell_refused;
 use worked::put_text;
 
-fn as_word(n: u64) -> u32 {
-    if n < 4294967296 {
-        return n as u32;
-    }
-    0
-}
-
-fn as_byte(n: u64) -> u8 {
-    if n < 256 {
-        return n as u8;
-    }
-    0
-}
-
-fn set_word(words: &mut [u32], at: usize, x: u32) {
-    if at < words.len() {
-        words[at] = x;
+fn set<T: Copy>(items: &mut [T], at: usize, x: T) {
+    if let Some(place) = items.get_mut(at) {
+        *place = x;
     }
 }
 
-fn set_byte(bytes: &mut [u8], at: usize, x: u8) {
-    if at < bytes.len() {
-        bytes[at] = x;
-    }
-}
-
-// The place in a table, or one past every table.
-fn place_in(own: bool, at: u64) -> usize {
-    if own {
-        return at as usize;
-    }
-    10000000
-}
-
-// One place altered, as `r9412:3` says.
+// One place altered, as `r9412:3` says. A number that is too large for its place is taken for 0.
 fn alter_place(alteration: &[u8], rows: &mut [u32], strings: &mut [u8], trits: &mut [u8]) {
-    let table = byte_at(alteration, 0);
-    let colon = find(alteration, 0, 58);
-    let at = number(alteration, 0, colon);
-    let x = number(alteration, colon, alteration.len());
-    set_word(rows, place_in(table == 114, at), as_word(x));
-    set_byte(strings, place_in(table == 115, at), as_byte(x));
-    set_byte(trits, place_in(table == 116, at), as_byte(x));
-}
-
-fn alter(alterations: &[u8], rows: &mut [u32], strings: &mut [u8], trits: &mut [u8]) {
-    let mut from: usize = 0;
-    while from < alterations.len() {
-        let end = find(alterations, from, 32);
-        alter_place(&alterations[from..end], rows, strings, trits);
-        from = end + 1;
+    let (place, value) = split_once(alteration, b':').unwrap_or((alteration, b""));
+    let at = number(place);
+    let x = number(value);
+    let byte = u8::try_from(x).unwrap_or(0);
+    match place.first() {
+        Some(b'r') => set(rows, at, u32::try_from(x).unwrap_or(0)),
+        Some(b's') => set(strings, at, byte),
+        Some(b't') => set(trits, at, byte),
+        _ => {}
     }
 }
 
-fn prints(r: Printed) -> bool {
-    match r {
-        Printed::Length(_n) => true,
-        Printed::Refused(_h) => false,
-    }
+fn tell_bad<W: Write>(to: &mut W, g: Refusal, t: Tables<'_>) -> io::Result<()> {
+    tell_refused(to, g)?;
+    tell_refusals(to, g, t)
 }
 
 // Good tables are looked up: a row, or 18.
-fn looks_up(r: Found) -> bool {
+fn looks_up(r: Result<(usize, u32), Refusal>) -> bool {
     match r {
-        Found::Row(_i, _w) => true,
-        Found::Refused(h) => h.number == 18,
+        Ok(_) => true,
+        Err(g) => g.number == 18,
     }
 }
 
-fn tell_bad<W: Write>(
-    to: &mut W,
-    g: Refusal,
-    rows: &[u32],
-    strings: &[u8],
-    trits: &[u8],
-) -> io::Result<()> {
-    tell_refused(to, g)?;
-    tell_refusals(to, g, rows, strings, trits)
-}
-
-// Rows one word short are refused 1 at 0.
-fn tell_short<W: Write>(to: &mut W, rows: &[u32], strings: &[u8], trits: &[u8]) -> io::Result<()> {
-    if 26306 <= rows.len() {
-        let place = Place { at: 0 };
-        let g = Refusal { number: 1, place };
-        tell_refusals(to, g, &rows[0..26306], strings, trits)?;
-    }
-    Ok(())
-}
-
-fn tell_good<W: Write>(to: &mut W, rows: &[u32], strings: &[u8], trits: &[u8]) -> io::Result<()> {
+fn tell_good<W: Write>(to: &mut W, t: Tables<'_>) -> io::Result<()> {
     let mut room = [7u8; 65536];
     to.write_all(b"good")?;
-    let r = print_text(rows, strings, trits, &mut room);
-    tell_unless(to, prints(r), b" (not printed)")?;
-    let f = lookup_io(rows, strings, trits, b"a");
-    tell_unless(to, looks_up(f), b" (not looked up)")?;
-    tell_short(to, rows, strings, trits)
-}
-
-fn tell_check<W: Write>(to: &mut W, rows: &[u32], strings: &[u8], trits: &[u8]) -> io::Result<()> {
-    let r = check_tables(rows, strings, trits);
-    match r {
-        Checked::Refused(g) => tell_bad(to, g, rows, strings, trits),
-        Checked::Good => tell_good(to, rows, strings, trits),
+    tell_unless(to, t.print(&mut room).is_ok(), b" (not printed)")?;
+    tell_unless(to, looks_up(t.lookup(b"a")), b" (not looked up)")?;
+    // Rows one word short are refused 1 at 0.
+    match t.rows.get(..26306) {
+        Some(rows) => tell_refusals(to, at_front(1), Tables { rows, ..t }),
+        None => Ok(()),
     }
 }
 
-fn is_refused(r: Read, number: u8) -> bool {
-    match r {
-        Read::Refused(g) => is_at_front(g, number),
-        Read::Accepted => false,
+fn tell_check<W: Write>(to: &mut W, t: Tables<'_>) -> io::Result<()> {
+    match t.check() {
+        Err(g) => tell_bad(to, g, t),
+        Ok(()) => tell_good(to, t),
     }
 }
 
@@ -142,13 +77,13 @@ fn tell_narrow<W: Write>(to: &mut W, text: &[u8]) -> io::Result<()> {
     let mut trits = lent_trits();
     let mut work = short_work();
     let r = read_text(text, &mut rows, &mut strings, &mut trits, &mut work);
-    tell_unless(to, is_refused(r, 1), b" (read in short work space)")?;
+    tell_unless(to, r == Err(at_front(1)), b" (read in short work space)")?;
     tell_unless(
         to,
-        lent(&rows),
+        all(&rows, 7),
         b" (rows beside short work space are changed)",
     )?;
-    tell_unless(to, lent(&work), b" (short work space is changed)")
+    tell_unless(to, all(&work, 7), b" (short work space is changed)")
 }
 
 fn tell_altered<W: Write>(to: &mut W, alterations: &[u8], text: &[u8]) -> io::Result<()> {
@@ -157,18 +92,26 @@ fn tell_altered<W: Write>(to: &mut W, alterations: &[u8], text: &[u8]) -> io::Re
     let mut trits = lent_trits();
     let mut work = lent_work();
     let r = read_text(text, &mut rows, &mut strings, &mut trits, &mut work);
-    tell_unless(to, accepted(r), b"not read: ")?;
-    alter(alterations, &mut rows, &mut strings, &mut trits);
-    tell_check(to, &rows, &strings, &trits)
+    tell_unless(to, r.is_ok(), b"not read: ")?;
+    for alteration in alterations.split(|b| *b == b' ') {
+        alter_place(alteration, &mut rows, &mut strings, &mut trits);
+    }
+    tell_check(
+        to,
+        Tables {
+            rows: &rows,
+            strings: &strings,
+            trits: &trits,
+        },
+    )
 }
 
 pub(crate) fn tell_line<W: Write>(to: &mut W, line: &[u8]) -> io::Result<()> {
     let mut room = text_room();
-    let bar = find(line, 0, 124);
-    if bar < line.len() {
-        let n = put_text(&line[bar + 1..line.len()], &mut room);
-        tell_altered(to, &line[0..bar], &room[0..n])?;
-        tell_narrow(to, &room[0..n])?;
+    if let Some((alterations, said)) = split_once(line, b'|') {
+        let n = put_text(said, &mut room);
+        tell_altered(to, alterations, &room[..n])?;
+        tell_narrow(to, &room[..n])?;
     }
     Ok(())
 }

@@ -17,17 +17,15 @@ mod refusals;
 mod rooms;
 mod runs;
 mod tables;
-mod telling;
+mod told;
 mod translations;
 
 ghost use Rattle.std.specs.Prelude.{◌≡◌, length};
 
 use filling::read_full;
-use finding::find;
-use rooms::byte_at;
 use std::io;
 use std::io::Write;
-use telling::tell_unless;
+use told::tell_unless;
 
 // What the list whose name begins with the letter answers to a line.
 fn tell_answer<W: Write>(to: &mut W, letter: u8, line: &[u8]) -> io::Result<()> {
@@ -43,35 +41,23 @@ fn tell_answer<W: Write>(to: &mut W, letter: u8, line: &[u8]) -> io::Result<()> 
     }
 }
 
-fn tell_case<W: Write>(to: &mut W, letter: u8, line: &[u8]) -> io::Result<()> {
-    to.write_all(line)?;
-    to.write_all(b" -> ")?;
-    tell_answer(to, letter, line)?;
-    to.write_all(b"\n")
-}
-
-fn tell_name<W: Write>(to: &mut W, line: &[u8]) -> io::Result<()> {
-    to.write_all(line)?;
-    to.write_all(b"\n")
-}
-
 // A line told; the letter of the list that the next line belongs to.
 fn tell_line<W: Write>(to: &mut W, letter: u8, line: &[u8]) -> io::Result<u8> {
-    if byte_at(line, 0) == b'@' {
-        tell_name(to, line)?;
-        return Ok(byte_at(line, 2));
+    to.write_all(line)?;
+    if line.starts_with(b"@") {
+        to.write_all(b"\n")?;
+        return Ok(line.get(2).copied().unwrap_or(0));
     }
-    tell_case(to, letter, line)?;
+    to.write_all(b" -> ")?;
+    tell_answer(to, letter, line)?;
+    to.write_all(b"\n")?;
     Ok(letter)
 }
 
 fn tell_all<W: Write>(to: &mut W, all: &[u8]) -> io::Result<()> {
-    let mut letter: u8 = 0;
-    let mut from: usize = 0;
-    while from < all.len() {
-        let end = find(all, from, 10);
-        letter = tell_line(to, letter, &all[from..end])?;
-        from = end + 1;
+    let mut letter = 0;
+    for line in all.split_inclusive(|b| *b == b'\n') {
+        letter = tell_line(to, letter, line.strip_suffix(b"\n").unwrap_or(line))?;
     }
     Ok(())
 }
@@ -88,5 +74,5 @@ fn main(rt: HostRuntime) -> io::Result<()> {
     let mut to = rt.stdout();
     let mut all = room_for_all();
     let n = read_full(&mut from, &mut all)?;
-    tell_all(&mut to, &all[0..n])
+    tell_all(&mut to, &all[..n])
 }

@@ -2,6 +2,84 @@
 // gives does not look into it.
 ghost use Rattle.std.specs.Prelude.{◌≡◌, length};
 
+use checking::{check_tables, lookup_io};
+use evaluating::evaluate;
+use ground::Refusal;
+use naming::full_name;
+use printing::print_text;
+use reader::read_text;
+use std::io;
+use std::io::Write;
+use tellrefused::tell_refused;
+use translating::translate;
+use worked::put_text;
+
+// Tables, and what is asked of them.
+#[derive(Clone, Copy)]
+pub(crate) struct Tables<'a> {
+    pub rows: &'a [u32],
+    pub strings: &'a [u8],
+    pub trits: &'a [u8],
+}
+
+impl Tables<'_> {
+    pub(crate) fn check(self) -> Result<(), Refusal> {
+        check_tables(self.rows, self.strings, self.trits)
+    }
+
+    pub(crate) fn lookup(self, name: &[u8]) -> Result<(usize, u32), Refusal> {
+        lookup_io(self.rows, self.strings, self.trits, name)
+    }
+
+    pub(crate) fn print(self, room: &mut [u8]) -> Result<usize, Refusal> {
+        print_text(self.rows, self.strings, self.trits, room)
+    }
+
+    pub(crate) fn name(self, row: usize, room: &mut [u8]) -> Result<usize, Refusal> {
+        full_name(self.rows, self.strings, self.trits, row, room)
+    }
+
+    pub(crate) fn evaluate(
+        self,
+        ins: &[u8],
+        room: &mut [u8],
+        work: &mut [u32],
+    ) -> Result<usize, Refusal> {
+        evaluate(self.rows, self.strings, self.trits, ins, room, work)
+    }
+
+    pub(crate) fn translate(self, room: &mut [u8], work: &mut [u32]) -> Result<usize, Refusal> {
+        translate(self.rows, self.strings, self.trits, room, work)
+    }
+}
+
+// What is told of the tables that the text of a line is read into; or what reading refuses.
+pub(crate) fn tell_said<W: Write, F: FnOnce(&mut W, Tables<'_>) -> io::Result<()>>(
+    to: &mut W,
+    said: &[u8],
+    tell: F,
+) -> io::Result<()>
+    requires { F.IsAlwaysCallable tell }
+{
+    let mut text = text_room();
+    let mut rows = lent_rows();
+    let mut strings = lent_strings();
+    let mut trits = lent_trits();
+    let mut work = lent_work();
+    let n = put_text(said, &mut text);
+    match read_text(&text[..n], &mut rows, &mut strings, &mut trits, &mut work) {
+        Err(g) => tell_refused(to, g),
+        Ok(()) => tell(
+            to,
+            Tables {
+                rows: &rows,
+                strings: &strings,
+                trits: &trits,
+            },
+        ),
+    }
+}
+
 // Tables full of 7, one word or byte longer than need be.
 pub(crate) fn lent_rows() -> [u32; 26308]
     ensures { 26308 ≡ length result }

@@ -5,27 +5,20 @@
 // changed, where work space is not as promised, and where a room or work space just long enough or one too short is not answered as it
 // must be.
 use crate::loads::tell_list;
-use crate::rooms::byte_at;
 use crate::runs::tell_run;
-use finding::find;
+use finding::split_once;
 use std::io;
 use std::io::Write;
 
-fn tell_said<W: Write>(to: &mut W, line: &[u8], said: &[u8]) -> io::Result<()> {
-    if byte_at(line, 0) == 108 {
+pub(crate) fn tell_line<W: Write>(to: &mut W, line: &[u8]) -> io::Result<()> {
+    let Some((asked, said)) = split_once(line, b'|') else {
+        return Ok(());
+    };
+    if asked.starts_with(b"l") {
         return tell_list(to, said);
     }
-    let blank = find(line, 0, 32);
-    if blank < line.len() {
-        tell_run(to, &line[blank + 1..line.len()], said)?;
+    match split_once(asked, b' ') {
+        Some((_, letters)) => tell_run(to, letters, said),
+        None => Ok(()),
     }
-    Ok(())
-}
-
-pub(crate) fn tell_line<W: Write>(to: &mut W, line: &[u8]) -> io::Result<()> {
-    let bar = find(line, 0, 124);
-    if bar < line.len() {
-        tell_said(to, line, &line[bar + 1..line.len()])?;
-    }
-    Ok(())
 }

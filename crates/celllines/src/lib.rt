@@ -218,8 +218,7 @@ pub fn put_cells(
     ensures { Wrote room.old n (cell_lines numbers.now widths.now numbers.now (cells_in (naming strings.now) (held_runs runs.now trits.now) (length numbers.now) rows.now)) room.new result }
 {
     let mut n = n;
-    let mut i: usize = 0;
-    while i < numbers.len() {
+    for i in 0..numbers.len() {
         let k = i * 9;
         n = put_cell(
             room,
@@ -232,7 +231,6 @@ pub fn put_cells(
             runs,
             trits,
         );
-        i += 1;
     }
     n
 }

@@ -7,7 +7,6 @@ mod operands;
 mod parts;
 
 ghost use Rattle.std.specs.Prelude.{◌≡◌, ◌||◌, List, ◌+◌, ◌≤◌, length};
-ghost use Rattle.signs.specs.Bytes.{table};
 ghost use Rattle.brackets.specs.Parts.{parts_at};
 ghost use Rattle.brackets.proofs.Sums.{widths};
 ghost use Rattle.netlist.specs.Netlist.{Run};
@@ -19,36 +18,37 @@ use brackets::Operand;
 use enclosed::measures::first_token;
 use form::Wiring;
 use ground::Place;
-use laying::{CellLaying, Counts, Laid, OperandLaying};
-use lexis::{Reader, Step};
+use laying::{Counts, Laid};
+use lexis::Reader;
 use operands::{lay_alone, lay_within};
+use signs::classes::Classes;
 use tokenparts::is_part;
 
 // The operand's runs behind those in use.
 fn lay_operand(
-    t: &[u8; 256],
+    t: &Classes,
     text: &[u8],
     operand: Operand,
     runs: &mut [u32],
     trits: &mut [u8],
     so: Laid,
-) -> OperandLaying
-    requires { (t.now ≡ table) × (length text.now ≤ 65536) × Held runs.old trits.old so × (widths (parts_at text.now operand) ≤ 256) × (so.trits + widths (parts_at text.now operand) ≤ 262656) }
+) -> Option<(Laid, bool)>
+    requires { (length text.now ≤ 65536) × Held runs.old trits.old so × (widths (parts_at text.now operand) ≤ 256) × (so.trits + widths (parts_at text.now operand) ≤ 262656) }
     ensures { ((rs : List Run) → Holds rs runs.old trits.old so → After rs (operand_runs text.now operand) result runs.new trits.new) × TellsBare (some_bare (parts_at text.now operand)) result }
 {
     let at = operand.at;
     if operand.given {
         let reader = Reader { next: Place { at } };
         let step = first_token(t, text, reader);
-        let Step::Took(token, next) = step else {
-            return OperandLaying::Laid(so, false);
+        let Ok((token, next)) = step else {
+            return Some((so, false));
         };
         if is_part(token) {
             return lay_alone(t, text, token, runs, trits, so);
         }
         return lay_within(t, text, next, runs, trits, so);
     }
-    OperandLaying::Laid(so, false)
+    Some((so, false))
 }
 
 // Whether one of three operands has a part without bits.
@@ -66,32 +66,20 @@ fn any_bare(a: bool, b: bool, c: bool) -> bool
 
 // The runs of a cell's three operands, in order, behind those in use.
 pub fn lay_cell(
-    t: &[u8; 256],
+    t: &Classes,
     text: &[u8],
     w: Wiring,
     runs: &mut [u32],
     trits: &mut [u8],
     so: Laid,
-) -> CellLaying
-    requires { (t.now ≡ table) × (length text.now ≤ 65536) × Held runs.old trits.old so × Room text.now w so }
+) -> Option<Counts>
+    requires { (length text.now ≤ 65536) × Held runs.old trits.old so × Room text.now w so }
     ensures { ((rs : List Run) → Holds rs runs.old trits.old so → CellAfter rs (operand_runs text.now w.a) (operand_runs text.now w.b) (operand_runs text.now w.c) result runs.new trits.new) × CellTellsBare (cell_bare text.now w) result }
 {
-    let a = w.a;
-    let b = w.b;
-    let c = w.c;
-    let first = lay_operand(t, text, a, runs, trits, so);
-    let OperandLaying::Laid(one, x) = first else {
-        return CellLaying::Full;
-    };
-    let second = lay_operand(t, text, b, runs, trits, one);
-    let OperandLaying::Laid(two, y) = second else {
-        return CellLaying::Full;
-    };
-    let third = lay_operand(t, text, c, runs, trits, two);
-    let OperandLaying::Laid(all, z) = third else {
-        return CellLaying::Full;
-    };
-    CellLaying::Laid(Counts {
+    let (one, x) = lay_operand(t, text, w.a, runs, trits, so)?;
+    let (two, y) = lay_operand(t, text, w.b, runs, trits, one)?;
+    let (all, z) = lay_operand(t, text, w.c, runs, trits, two)?;
+    Some(Counts {
         a: one.runs - so.runs,
         b: two.runs - one.runs,
         c: all.runs - two.runs,

@@ -1,6 +1,5 @@
 // The parts of an operand, token by token, behind the runs in use.
 ghost use Rattle.std.specs.Prelude.{◌≡◌, ◌||◌, [], ◌∷◌, suc, ◌≤◌, eqb, length};
-ghost use Rattle.signs.specs.Bytes.{table};
 ghost use Rattle.brackets.specs.Parts.{base_of, part_of, base_width, part_width, parts_from};
 ghost use Rattle.saying.specs.Values.{part_bits};
 ghost use Rattle.laying.specs.Growing.{Opened, Grows, PartIn};
@@ -10,8 +9,9 @@ use crate::parts::{add_constant, add_part};
 use brackets::Piece;
 use ground::Place;
 use joining::add_piece;
-use laying::{Laid, Laying, OperandLaying};
-use lexis::{Reader, Step, Token};
+use laying::Laid;
+use lexis::{Reader, Token};
+use signs::classes::Classes;
 use spots::spot_with;
 use tokenparts::{is_part, part_of, str_of};
 
@@ -57,15 +57,15 @@ fn or_none(bare: bool, width: u32) -> bool
 
 // The part that a token is, behind those that are laid. Only a repetition is made into a part first: most tokens are none.
 fn add_token(
-    t: &[u8; 256],
+    t: &Classes,
     text: &[u8],
     token: Token,
     runs: &mut [u32],
     trits: &mut [u8],
     first: usize,
     so: Laid,
-) -> Laying
-    requires { (t.now ≡ table) × PartIn text.now (part_of token) × Opened first runs.old trits.old so (part_width (part_of token)) }
+) -> Option<Laid>
+    requires { PartIn text.now (part_of token) × Opened first runs.old trits.old so (part_width (part_of token)) }
     ensures { Grows first runs.old trits.old so (part_bits text.now (part_of token)) result runs.new trits.new }
 {
     if 4 <= token.parts {
@@ -88,35 +88,32 @@ fn add_token(
 
 // An operand that is one part.
 pub(crate) fn lay_alone(
-    t: &[u8; 256],
+    t: &Classes,
     text: &[u8],
     token: Token,
     runs: &mut [u32],
     trits: &mut [u8],
     so: Laid,
-) -> OperandLaying
-    requires { (t.now ≡ table) × PartIn text.now (part_of token) × PartsFit (token_part token ∷ []) runs.old trits.old so }
+) -> Option<(Laid, bool)>
+    requires { PartIn text.now (part_of token) × PartsFit (token_part token ∷ []) runs.old trits.old so }
     ensures { PartsLaid text.now (token_part token ∷ []) runs.old trits.old so result runs.new trits.new }
 {
     let first = so.runs;
-    let added = add_token(t, text, token, runs, trits, first, so);
-    let Laying::Laid(used) = added else {
-        return OperandLaying::Full;
-    };
-    OperandLaying::Laid(used, is_bare(token))
+    let used = add_token(t, text, token, runs, trits, first, so)?;
+    Some((used, is_bare(token)))
 }
 
 // An operand between brackets, whose `[` is read. Each part takes a byte at least, so the text's length bounds their number.
 // A piece without a count is laid by its numbers: most parts are such pieces, and a token of each costs more than the laying.
 pub(crate) fn lay_within(
-    t: &[u8; 256],
+    t: &Classes,
     text: &[u8],
     reader: Reader,
     runs: &mut [u32],
     trits: &mut [u8],
     so: Laid,
-) -> OperandLaying
-    requires { (t.now ≡ table) × (length text.now ≤ 65536) × PartsFit (parts_from (suc (length text.now)) text.now reader.next.at) runs.old trits.old so }
+) -> Option<(Laid, bool)>
+    requires { (length text.now ≤ 65536) × PartsFit (parts_from (suc (length text.now)) text.now reader.next.at) runs.old trits.old so }
     ensures { PartsLaid text.now (parts_from (suc (length text.now)) text.now reader.next.at) runs.old trits.old so result runs.new trits.new }
 {
     let first = so.runs;
@@ -127,10 +124,10 @@ pub(crate) fn lay_within(
     while 0 < left {
         let spot = spot_with(t, text, next);
         if spot.closed {
-            return OperandLaying::Laid(used, bare);
+            return Some((used, bare));
         }
         if spot.found {
-            let added = add_piece(
+            let more = add_piece(
                 runs,
                 first,
                 used,
@@ -139,10 +136,7 @@ pub(crate) fn lay_within(
                     offset: spot.offset,
                     width: spot.width,
                 },
-            );
-            let Laying::Laid(more) = added else {
-                return OperandLaying::Full;
-            };
+            )?;
             bare = or_none(bare, spot.width);
             used = more;
             next = Reader {
@@ -152,21 +146,18 @@ pub(crate) fn lay_within(
             continue;
         }
         let step = next.inside_with(t, text);
-        let Step::Took(token, behind) = step else {
-            return OperandLaying::Laid(used, bare);
+        let Ok((token, behind)) = step else {
+            return Some((used, bare));
         };
         if is_part(token) {
-            let added = add_token(t, text, token, runs, trits, first, used);
-            let Laying::Laid(more) = added else {
-                return OperandLaying::Full;
-            };
+            let more = add_token(t, text, token, runs, trits, first, used)?;
             bare = or_bare(bare, token);
             used = more;
             next = behind;
             left -= 1;
         } else {
-            return OperandLaying::Laid(used, bare);
+            return Some((used, bare));
         }
     }
-    OperandLaying::Laid(used, bare)
+    Some((used, bare))
 }

@@ -1,6 +1,5 @@
 // One part of an operand behind those that are laid: a constant, a piece, or a repetition of either.
 ghost use Rattle.std.specs.Prelude.{◌≡◌, ◌+◌, ◌*◌, ◌≤◌, length};
-ghost use Rattle.signs.specs.Bytes.{table};
 ghost use Rattle.brackets.specs.Parts.{base_width, part_width};
 ghost use Rattle.netlist.specs.Runs.{known_bits};
 ghost use Rattle.saying.specs.Values.{trits_in, base_bits, copies, part_bits};
@@ -9,19 +8,20 @@ ghost use Rattle.laying.specs.Growing.{Opened, Grows, BaseIn, PartIn};
 use brackets::{Base, Part, Str};
 use constants::copy_trits;
 use joining::{add_known, add_piece};
-use laying::{Laid, Laying};
+use laying::Laid;
+use signs::classes::Classes;
 
 // A constant: its trits behind those in use, then its run.
 pub(crate) fn add_constant(
-    t: &[u8; 256],
+    t: &Classes,
     text: &[u8],
     s: Str,
     runs: &mut [u32],
     trits: &mut [u8],
     first: usize,
     so: Laid,
-) -> Laying
-    requires { (t.now ≡ table) × (s.from + s.size ≤ length text.now) × Opened first runs.old trits.old so s.size }
+) -> Option<Laid>
+    requires { (s.from + s.size ≤ length text.now) × Opened first runs.old trits.old so s.size }
     ensures { Grows first runs.old trits.old so (known_bits (trits_in text.now s)) result runs.new trits.new }
 {
     let from = s.from;
@@ -41,15 +41,15 @@ fn base_width(base: Base) -> u64
 }
 
 fn add_base(
-    t: &[u8; 256],
+    t: &Classes,
     text: &[u8],
     base: Base,
     runs: &mut [u32],
     trits: &mut [u8],
     first: usize,
     so: Laid,
-) -> Laying
-    requires { (t.now ≡ table) × BaseIn text.now base × Opened first runs.old trits.old so (base_width base) }
+) -> Option<Laid>
+    requires { BaseIn text.now base × Opened first runs.old trits.old so (base_width base) }
     ensures { Grows first runs.old trits.old so (base_bits text.now base) result runs.new trits.new }
 {
     match base {
@@ -60,7 +60,7 @@ fn add_base(
 
 // The base so many times; one that is no bits wide leaves nothing, however often it stands there.
 fn add_copies(
-    t: &[u8; 256],
+    t: &Classes,
     text: &[u8],
     base: Base,
     count: u32,
@@ -68,37 +68,33 @@ fn add_copies(
     trits: &mut [u8],
     first: usize,
     so: Laid,
-) -> Laying
-    requires { (t.now ≡ table) × BaseIn text.now base × Opened first runs.old trits.old so (count * base_width base) }
+) -> Option<Laid>
+    requires { BaseIn text.now base × Opened first runs.old trits.old so (count * base_width base) }
     ensures { Grows first runs.old trits.old so (copies count (base_bits text.now base)) result runs.new trits.new }
 {
     if base_width(base) == 0 {
-        return Laying::Laid(so);
+        return Some(so);
     }
     let mut used = so;
     let mut left = count;
     while 0 < left {
-        let added = add_base(t, text, base, runs, trits, first, used);
-        let Laying::Laid(next) = added else {
-            return Laying::Full;
-        };
-        used = next;
+        used = add_base(t, text, base, runs, trits, first, used)?;
         left -= 1;
     }
-    Laying::Laid(used)
+    Some(used)
 }
 
 // The part behind those that are laid.
 pub(crate) fn add_part(
-    t: &[u8; 256],
+    t: &Classes,
     text: &[u8],
     part: Part,
     runs: &mut [u32],
     trits: &mut [u8],
     first: usize,
     so: Laid,
-) -> Laying
-    requires { (t.now ≡ table) × PartIn text.now part × Opened first runs.old trits.old so (part_width part) }
+) -> Option<Laid>
+    requires { PartIn text.now part × Opened first runs.old trits.old so (part_width part) }
     ensures { Grows first runs.old trits.old so (part_bits text.now part) result runs.new trits.new }
 {
     match part {

@@ -1,4 +1,5 @@
 -- Keywords back: each printed keyword names its kind; and the reference that may stand at a line's end.
+use Rattle.std.specs.Prelude.{Ok}
 use mathlib.Core.Path.{◌≡◌, refl, sym, ◌∙◌}
 use mathlib.Core.Bool.{Bool, true, false, ◌&&◌}
 use mathlib.Core.List.{List, [], ◌∷◌}
@@ -21,7 +22,6 @@ use Rattle.brackets.specs.Words.{numbered}
 use Rattle.brackets.specs.Parts.{ref, no_ref}
 use Rattle.form.specs.Forms.{meta_if, wiring_form, named_form, cell_form, body_form, open_form, form_at}
 use Rattle.brackets.specs.declared.Ref.{Ref}
-use Rattle.form.specs.declared.Linked.TheVariants as linked
 use Rattle.netlist.specs.Rules.{any_kind}
 use Rattle.saying.specs.Values.{ref_row}
 use Rattle.saying.specs.Rules.{Sofar, misnamed}
@@ -99,7 +99,7 @@ opened {text} {k} {s} n w kind a b i e h =
 pub record TakesMeta (text : List ℕ) (k m : ℕ) (s : List ℕ) : Type 0 where
   pub ref : Ref
   pub end : ℕ
-  pub taken : meta_if text k ≡ linked.Took ref (record { next = at end })
+  pub taken : meta_if text k ≡ Ok (ref, record { next = at end })
   pub row : (so : Sofar) (kinds : List ℕ) → Rowed so kinds → m ≤ length kinds → ref_row so.meta_numbers ref ≡ m
   pub named : (so : Sofar) (kinds : List ℕ) → Rowed so kinds → m ≤ length kinds → misnamed so (record { ref = ref; allowed = any_kind }) ≡ false
   pub rest : drop end text ≡ 10 ∷ s

@@ -1,4 +1,5 @@
 -- THE LINES OF CELLS BACK: each has the form of its declaration, says the cell that was printed, and all its pieces resolve.
+use Rattle.std.specs.Prelude.{Ok, Some}
 use Prim.Native.Nat.{ℕ, ◌+◌, ◌≤◌}
 use mathlib.Core.Path.{◌≡◌, refl, ◌∙◌}
 use mathlib.Core.Bool.{Bool, true, false, not}
@@ -18,7 +19,6 @@ use Rattle.form.specs.Forms.{wiring_form, named_form}
 use Rattle.brackets.specs.declared.Str.{Str}
 use Rattle.form.specs.declared.Decl.{Decl}
 use Rattle.form.specs.declared.Decl.TheVariants as decl
-use Rattle.form.specs.declared.Form.TheVariants as form
 use Rattle.netlist.specs.Netlist.{Cell, Run, operand_width}
 use Rattle.netlist.specs.Runs.{cut, operand_bits, longest}
 use Rattle.netlist.specs.Rules.{is_byte, is_empty, unless, run_sound, operand_sound, runless, cell_sound}
@@ -56,7 +56,7 @@ CellSays text numbers widths kinds c d = (so : Sofar) → Rowed so kinds → Cel
 record Wired (text numbers widths kinds : List ℕ) (t : Token) (name : Str) (c : Cell) (k : ℕ) (s : List ℕ) : Type 0 where
   decl : Decl
   end : ℕ
-  form : wiring_form text t c.kind name k ≡ form.Took (record { place = t.place; index = t.value; decl = decl }) (record { next = at end })
+  form : wiring_form text t c.kind name k ≡ Ok (Some (record { place = t.place; index = t.value; decl = decl }, record { next = at end }))
   after : Stands text end s
   said : t.width ≡ c.width → name_in text (kind_at c.kind).named name ≡ c.name → CellSays text numbers widths kinds c decl
 
@@ -65,7 +65,7 @@ record Told (text numbers widths kinds : List ℕ) (t : Token) (c : Cell) (k : �
   decl : Decl
   end : ℕ
   form : pick (kind_at c.kind).named (named_form text t c.kind k) (wiring_form text t c.kind (record { from = 0; size = 0 }) k)
-      ≡ form.Took (record { place = t.place; index = t.value; decl = decl }) (record { next = at end })
+      ≡ Ok (Some (record { place = t.place; index = t.value; decl = decl }, record { next = at end }))
   after : Stands text end s
   said : t.width ≡ c.width → CellSays text numbers widths kinds c decl
 

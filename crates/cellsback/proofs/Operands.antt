@@ -1,4 +1,5 @@
 -- Printed operands back: bare or between brackets, each with its width, its bits and its pieces, which all resolve.
+use Rattle.std.specs.Prelude.{Ok}
 use mathlib.Core.Path.{◌≡◌, refl, ap}
 use mathlib.Core.Bool.{Bool, true, false, ◌&&◌}
 use mathlib.Core.List.{List, [], ◌∷◌, ◌++◌, map}
@@ -18,8 +19,6 @@ use Rattle.brackets.specs.Parts.{part_of, part_width, concat_from, parts_from, o
 use Rattle.form.specs.Forms.{operand_if}
 use Rattle.brackets.proofs.Measures.{part_took, part_other}
 use Rattle.brackets.specs.declared.Operand.{Operand}
-use Rattle.brackets.specs.declared.Measured.TheVariants as measured
-use Rattle.brackets.specs.declared.Taken.TheVariants as taken
 use Rattle.netlist.specs.Netlist.{Run, const, piece, run_width, operand_width}
 use Rattle.netlist.specs.Runs.{Bit, cut, operand_bits}
 use Rattle.netlist.specs.Rules.{run_sound}
@@ -50,7 +49,7 @@ both_found numbers widths (x ∷ ps) qs p q = bool_cases (unresolved numbers wid
 -- between brackets: runs up to `]`, read with the fuel f behind a width of n
 pub record Closes (text numbers widths : List ℕ) (f n k : ℕ) (rs : List Run) (s : List ℕ) : Type 0 where
   pub end : ℕ
-  pub closed : concat_from f text n k ≡ measured.Closed (n + operand_width rs) (record { next = at end })
+  pub closed : concat_from f text n k ≡ Ok (n + operand_width rs, record { next = at end })
   pub bits : said_bits text (parts_from f text k) ≡ number_bits numbers rs
   pub found : first_unresolved numbers widths (said_pieces (parts_from f text k)) ≡ none
   pub after : Stands text end s
@@ -59,7 +58,7 @@ pub record Closes (text numbers widths : List ℕ) (f n k : ℕ) (rs : List Run)
 pub record TakesOperand (text numbers widths : List ℕ) (given : Bool) (k : ℕ) (rs : List Run) (s : List ℕ) : Type 0 where
   pub operand : Operand
   pub end : ℕ
-  pub taken : operand_if given text k ≡ taken.Took operand (record { next = at end })
+  pub taken : operand_if given text k ≡ Ok (operand, record { next = at end })
   pub wide : operand.width ≡ operand_width rs
   pub runs : operand_runs text operand ≡ cut (number_bits numbers rs)
   pub found : first_unresolved numbers widths (operand_pieces text operand) ≡ none

@@ -10,14 +10,12 @@ pub(crate) fn put_adc(a: &[u8], b: &[u8], c: u8, out: &mut [u8])
 {
     let n = least(least(a.len(), b.len()), out.len());
     let mut carry = c;
-    let mut i: usize = 0;
-    while i < n {
+    for i in 0..n {
         out[i] = trit::xor3(trit::xor3(a[i], b[i]), carry);
         carry = trit::carry3(a[i], b[i], carry);
-        i += 1;
     }
-    if out.len() <= i {
+    if out.len() <= n {
         return;
     }
-    out[i] = carry;
+    out[n] = carry;
 }

@@ -39,13 +39,11 @@ fn eq_bit(a: &[u8], b: &[u8]) -> u8
 {
     let n = least(a.len(), b.len());
     let mut told: u8 = 1;
-    let mut i: usize = 0;
-    while i < n {
+    for i in 0..n {
         if clashes(a[i], b[i]) {
             return 0;
         }
         told = told_at(told, a[i], b[i]);
-        i += 1;
     }
     told
 }
@@ -55,10 +53,8 @@ fn ult_bit(a: &[u8], b: &[u8]) -> u8
 {
     let n = least(a.len(), b.len());
     let mut below: u8 = 0;
-    let mut i: usize = 0;
-    while i < n {
+    for i in 0..n {
         below = trit::carry3(trit::not3(a[i]), b[i], below);
-        i += 1;
     }
     below
 }
@@ -73,10 +69,8 @@ fn slt_bit(a: &[u8], b: &[u8]) -> u8
     let top = a.len() - 1;
     let n = least(top, b.len());
     let mut below: u8 = 0;
-    let mut i: usize = 0;
-    while i < n {
+    for i in 0..n {
         below = trit::carry3(trit::not3(a[i]), b[i], below);
-        i += 1;
     }
     if b.len() <= top {
         return below;

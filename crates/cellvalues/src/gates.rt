@@ -10,10 +10,8 @@ pub(crate) fn put_not(a: &[u8], out: &mut [u8])
     ensures { out.new ≡ sets out.old 0 (not_bits a.now) }
 {
     let n = least(a.len(), out.len());
-    let mut i: usize = 0;
-    while i < n {
+    for i in 0..n {
         out[i] = trit::not3(a[i]);
-        i += 1;
     }
 }
 
@@ -33,9 +31,7 @@ pub(crate) fn put_gate(kind: u32, a: &[u8], b: &[u8], out: &mut [u8])
     ensures { out.new ≡ sets out.old 0 (pairs (gate_of kind) a.now b.now) }
 {
     let n = least(least(a.len(), b.len()), out.len());
-    let mut i: usize = 0;
-    while i < n {
+    for i in 0..n {
         out[i] = gate_bit(kind, a[i], b[i]);
-        i += 1;
     }
 }

@@ -9,10 +9,8 @@ pub(crate) fn copy(a: &[u8], out: &mut [u8])
     ensures { out.new ≡ sets out.old 0 a.now }
 {
     let n = least(a.len(), out.len());
-    let mut i: usize = 0;
-    while i < n {
+    for i in 0..n {
         out[i] = a[i];
-        i += 1;
     }
 }
 
@@ -21,10 +19,8 @@ pub(crate) fn put_x(size: usize, out: &mut [u8])
     ensures { out.new ≡ sets out.old 0 (replicate size 2) }
 {
     let n = least(size, out.len());
-    let mut i: usize = 0;
-    while i < n {
+    for i in 0..n {
         out[i] = 2;
-        i += 1;
     }
 }
 

@@ -1,36 +1,31 @@
 -- A cell row is good exactly where its name and its runs are laid out as the cell that it shows, which is sound.
-use mathlib.Core.Path.{◌≡◌, refl, sym, ap, ap₂, ◌∙◌, subst}
+use Rattle.std.specs.Prelude.{Option, Some, None}
+use mathlib.Core.Path.{◌≡◌, refl, sym, ap, ◌∙◌}
 use mathlib.Core.Bool.{Bool, true, false, not, ◌&&◌, ◌||◌}
 use mathlib.Core.List.{List, [], ◌∷◌, ◌++◌, append_assoc}
-use Prim.Native.Nat.{ℕ, zero, suc, ◌+◌, ◌-◌, ◌*◌, ◌<◌, ◌≤◌}
+use Prim.Native.Nat.{ℕ, zero, suc, ◌+◌, ◌-◌, ◌*◌, ◌≤◌}
 use native.Mathlib.Omega.{arith}
 use native.Mathlib.Nat.{add-zero, zero-add}
 use native.Mathlib.Decide.{ℕ_discrete}
 use lib.Dec.{eqb, leb}
-use lib.ListN.{length, drop, take, get_or, length-append, length-drop}
+use lib.ListN.{length, drop, take, length-append}
 use lib.Seq.{drop-drop}
 use borrow.Author.Tests.{eq-eqb, ne_eqb, eqb-true, leb-true, le-leb}
 use Rattle.ground.specs.Choice.{pick}
-use Rattle.ground.specs.Lists.{every, all_of, joined}
+use Rattle.ground.specs.Lists.{every, joined}
 use Rattle.ground.specs.Regions.{part}
 use Rattle.ground.proofs.Bools.{bool_cases, never_both, and_true, true_and, fact, facts}
 use Rattle.ground.proofs.Regions.{part_length}
-use Rattle.kinds.specs.Kinds.{kind_at, is_kind, output_kind}
-use Rattle.netlist.specs.Netlist.{Run, const, piece, Cell, operand_width, bits_in, run_bits_of, cell_runs}
-use Rattle.netlist.specs.Rules.{is_byte, is_empty, run_sound, operand_sound, runless, cell_width, cell_sound, output_bits, short_string}
-use Rattle.netlist.specs.Tables.{Tables, run_row, run_rows, cell_row}
+use Rattle.kinds.specs.Kinds.{kind_at, is_kind}
+use Rattle.netlist.specs.Netlist.{Run, Cell, operand_width, bits_in, run_bits_of, cell_runs}
+use Rattle.netlist.specs.Rules.{is_byte, is_empty, operand_sound, runless, cell_width, cell_sound, output_bits, short_string}
+use Rattle.netlist.specs.Tables.{Tables, run_row, run_rows}
 use Rattle.netlist.specs.View.{word, run_in, runs_in, pool_in, cell_in}
 use Rattle.netlist.proofs.Lengths.{run_bits_append}
-use Rattle.pools.specs.Lying.{lies}
 use Rattle.checkmeta.proofs.Fits.{every_part, none}
+use Rattle.ground.proofs.Pairs.{some_first, some_second}
 use Rattle.checkcells.specs.Runs.{operand_walk}
 use Rattle.checkcells.specs.Walk.{cell_named, cell_head, cell_placed, operands_walk, judged, out_width, cell_good}
-use Rattle.checkcells.specs.declared.runs.Operand.{Operand}
-use Rattle.checkcells.specs.declared.runs.Operand.TheVariants as operand
-use Rattle.checkcells.specs.declared.cells.Widths.{Widths}
-use Rattle.checkcells.specs.declared.cells.Widths.TheVariants as widths
-use Rattle.checkcells.specs.declared.cells.Judged.{Judged}
-use Rattle.checkcells.specs.declared.cells.Judged.TheVariants as verdict
 use Rattle.checkcells.proofs.Laws.{Placed, placed_is, good_placed}
 use Rattle.checkcells.proofs.RunLink.{Operands, operand_walked, operand_walks}
 
@@ -116,35 +111,36 @@ module _ (T : Tables) (l : length T.run_bits ≡ 262656) (ws : List ℕ) (r e a 
         c_sound = s.sound;
       }
 
-  pub three_walked : (x y z h : ℕ) → (r + (a + (b + c))) * 3 ≤ length T.runs → operands_walk ws T.run_bits T.runs r e a b c ≡ widths.Of x y z h → Three T ws r e a b c x y z h
+  pub three_walked : (x y z h : ℕ) → (r + (a + (b + c))) * 3 ≤ length T.runs → operands_walk ws T.run_bits T.runs r e a b c ≡ Some (x, y, z, h) → Three T ws r e a b c x y z h
   unfolding operands_walk
   three_walked x y z h k w = go (operand_walk ws T.run_bits T.runs r e 0 a) refl
     where
-      wrong : {P : Type 0} → widths.Wrong ≡ widths.Of x y z h → P
+      wrong : {P : Type 0} → ◌≡◌ {A = Option (ℕ × ℕ × ℕ × ℕ)} None (Some (x, y, z, h)) → P
       wrong d = let n : ◌≡◌ {A = ℕ} 0 1 = cc (d) in absurd (omega arith)
 
-      go₃ : (x₁ f y₁ g : ℕ) → operand_walk ws T.run_bits T.runs r e 0 a ≡ operand.Wide x₁ f → operand_walk ws T.run_bits T.runs (r + a) f 0 b ≡ operand.Wide y₁ g
-          → (o : Operand) → operand_walk ws T.run_bits T.runs (r + a + b) g 0 c ≡ o → Three T ws r e a b c x y z h
-      go₃ x₁ f y₁ g p q operand.Wrong s = wrong (rw (p, q, s) at w)
-      go₃ x₁ f y₁ g p q (operand.Wide z₁ h₁) s =
-          let d : widths.Of x₁ y₁ z₁ h₁ ≡ widths.Of x y z h = rw (p, q, s) at w in
-          let dx : x₁ ≡ x = cc (d) in
-          let dy : y₁ ≡ y = cc (d) in
-          let dz : z₁ ≡ z = cc (d) in
-          let dh : h₁ ≡ h = cc (d) in
+      go₃ : (x₁ f y₁ g : ℕ) → operand_walk ws T.run_bits T.runs r e 0 a ≡ Some (x₁, f) → operand_walk ws T.run_bits T.runs (r + a) f 0 b ≡ Some (y₁, g)
+          → (o : Option (ℕ × ℕ)) → operand_walk ws T.run_bits T.runs (r + a + b) g 0 c ≡ o → Three T ws r e a b c x y z h
+      go₃ x₁ f y₁ g p q None s = wrong (rw (p, q, s) at w)
+      go₃ x₁ f y₁ g p q (Some (z₁, h₁)) s =
+          let d : ◌≡◌ {A = Option (ℕ × ℕ × ℕ × ℕ)} (Some (x₁, y₁, z₁, h₁)) (Some (x, y, z, h)) = rw (p, q, s) at w in
+          let t : ◌≡◌ {A = ℕ × ℕ × ℕ × ℕ} (x₁, y₁, z₁, h₁) (x, y, z, h) = cc (d) in
+          let dx : x₁ ≡ x = ap (λ (v : ℕ × ℕ × ℕ × ℕ). v.0) t in
+          let dy : y₁ ≡ y = ap (λ (v : ℕ × ℕ × ℕ × ℕ). v.1) t in
+          let dz : z₁ ≡ z = ap (λ (v : ℕ × ℕ × ℕ × ℕ). v.2) t in
+          let dh : h₁ ≡ h = ap (λ (v : ℕ × ℕ × ℕ × ℕ). v.3) t in
           rw (← dx, ← dy, ← dz, ← dh) (three_of x₁ y₁ z₁ f g h₁ (operand_walked T l ws a r e 0 x₁ f (omega arith) p) (operand_walked T l ws b (r + a) f 0 y₁ g (omega arith) q) (operand_walked T l ws c (r + a + b) g 0 z₁ h₁ (omega arith) s))
 
-      go₂ : (x₁ f : ℕ) → operand_walk ws T.run_bits T.runs r e 0 a ≡ operand.Wide x₁ f → (o : Operand) → operand_walk ws T.run_bits T.runs (r + a) f 0 b ≡ o → Three T ws r e a b c x y z h
-      go₂ x₁ f p operand.Wrong q = wrong (rw (p, q) at w)
-      go₂ x₁ f p (operand.Wide y₁ g) q = go₃ x₁ f y₁ g p q (operand_walk ws T.run_bits T.runs (r + a + b) g 0 c) refl
+      go₂ : (x₁ f : ℕ) → operand_walk ws T.run_bits T.runs r e 0 a ≡ Some (x₁, f) → (o : Option (ℕ × ℕ)) → operand_walk ws T.run_bits T.runs (r + a) f 0 b ≡ o → Three T ws r e a b c x y z h
+      go₂ x₁ f p None q = wrong (rw (p, q) at w)
+      go₂ x₁ f p (Some (y₁, g)) q = go₃ x₁ f y₁ g p q (operand_walk ws T.run_bits T.runs (r + a + b) g 0 c) refl
 
-      go : (o : Operand) → operand_walk ws T.run_bits T.runs r e 0 a ≡ o → Three T ws r e a b c x y z h
-      go operand.Wrong p = wrong (rw p at w)
-      go (operand.Wide x₁ f) p = go₂ x₁ f p (operand_walk ws T.run_bits T.runs (r + a) f 0 b) refl
+      go : (o : Option (ℕ × ℕ)) → operand_walk ws T.run_bits T.runs r e 0 a ≡ o → Three T ws r e a b c x y z h
+      go None p = wrong (rw p at w)
+      go (Some (x₁, f)) p = go₂ x₁ f p (operand_walk ws T.run_bits T.runs (r + a) f 0 b) refl
 
   pub three_walks : (rest : List ℕ) → drop (r * 3) T.runs ≡ run_rows e (three_runs T r a b c) ++ rest → e + length (run_bits_of (three_runs T r a b c)) ≤ 262656
       → operand_sound ws (runs_at T r a) ≡ true → operand_sound ws (runs_at T (r + a) b) ≡ true → operand_sound ws (runs_at T (r + a + b) c) ≡ true
-      → (operands_walk ws T.run_bits T.runs r e a b c ≡ widths.Of (operand_width (runs_at T r a)) (operand_width (runs_at T (r + a) b)) (operand_width (runs_at T (r + a + b) c)) (e + length (run_bits_of (three_runs T r a b c))))
+      → (operands_walk ws T.run_bits T.runs r e a b c ≡ Some (operand_width (runs_at T r a), operand_width (runs_at T (r + a) b), operand_width (runs_at T (r + a + b) c), e + length (run_bits_of (three_runs T r a b c))))
       × (drop ((r + (a + (b + c))) * 3) T.runs ≡ rest)
   unfolding operands_walk
   three_walks rest w m p q s =
@@ -245,31 +241,31 @@ module _ (T : Tables) (P : Pools T) where
           short = rw v.name n.1;
         }
 
-    pub good_told : (out e : ℕ) → cell_good ws T.run_bits T.runs metas s r b row ≡ verdict.Good out e → Told out e
+    pub good_told : (out e : ℕ) → cell_good ws T.run_bits T.runs metas s r b row ≡ Some (out, e) → Told out e
     unfolding cell_good
     good_told out e g =
         let u = good_placed ws T.run_bits T.runs metas s r b row out e g in
-        let j : judged (word row 0) (word row 1) (operands_walk ws T.run_bits T.runs r b (word row 6) (word row 7) (word row 8)) ≡ verdict.Good out e = rw (u.0, u.1) at g in
+        let j : judged (word row 0) (word row 1) (operands_walk ws T.run_bits T.runs r b (word row 6) (word row 7) (word row 8)) ≡ Some (out, e) = rw (u.0, u.1) at g in
         let o = placed_is s r row (and_true (cell_placed s r row) _ u.1).0 in
         go u o (operands_walk ws T.run_bits T.runs r b (word row 6) (word row 7) (word row 8)) refl j
       where
-        wrong : {A : Type 0} → verdict.Wrong ≡ verdict.Good out e → A
+        wrong : {A : Type 0} → ◌≡◌ {A = Option (ℕ × ℕ)} None (Some (out, e)) → A
         wrong d = let n : ◌≡◌ {A = ℕ} 0 1 = cc (d) in absurd (omega arith)
 
         go : (is_kind (word row 0) ≡ true) × (cell_placed s r row && cell_head metas (word row 0) row ≡ true) → Placed s r row
-            → (w : Widths) → operands_walk ws T.run_bits T.runs r b (word row 6) (word row 7) (word row 8) ≡ w → judged (word row 0) (word row 1) w ≡ verdict.Good out e → Told out e
-        go u o widths.Wrong q j = wrong j
-        go u o (widths.Of x y z h) q j = bool_cases ((kind_at (word row 0)).widths (word row 1) x y z)
-            (λ k. let d : verdict.Good (out_width (word row 0) x) h ≡ verdict.Good out e = rw k at j in
-            let d₁ : out_width (word row 0) x ≡ out = cc (d) in
-            let d₂ : h ≡ e = cc (d) in
+            → (w : Option (ℕ × ℕ × ℕ × ℕ)) → operands_walk ws T.run_bits T.runs r b (word row 6) (word row 7) (word row 8) ≡ w → judged (word row 0) (word row 1) w ≡ Some (out, e) → Told out e
+        go u o None q j = wrong j
+        go u o (Some (x, y, z, h)) q j = bool_cases ((kind_at (word row 0)).widths (word row 1) x y z)
+            (λ k. let d : ◌≡◌ {A = Option (ℕ × ℕ)} (Some (out_width (word row 0) x, h)) (Some (out, e)) = rw k at j in
+            let d₁ : out_width (word row 0) x ≡ out = some_first d in
+            let d₂ : h ≡ e = some_second d in
             rw (← d₁, ← d₂) (told_of x y z h u.0 u.1 (three_walked T P.bits ws r b (word row 6) (word row 7) (word row 8) x y z h (omega (arith, o.runs, P.runs)) q) k))
             (λ k. wrong (rw k at j))
 
     -- and back: a row that is placed, whose runs are laid, and whose cell is sound
     pub sound_good : Placed s r row → (rest : List ℕ) → drop (r * 3) T.runs ≡ run_rows b (cell_runs cell) ++ rest → b + length (run_bits_of (cell_runs cell)) ≤ 262656
         → cell_sound ws metas cell ≡ true → short_string cell.name ≡ true
-        → (cell_good ws T.run_bits T.runs metas s r b row ≡ verdict.Good (output_bits cell) (b + length (run_bits_of (cell_runs cell))))
+        → (cell_good ws T.run_bits T.runs metas s r b row ≡ Some (output_bits cell, b + length (run_bits_of (cell_runs cell))))
         × (drop ((r + (word row 6 + (word row 7 + word row 8))) * 3) T.runs ≡ rest)
     unfolding cell_good
     sound_good o rest w m s₁ s₂ =

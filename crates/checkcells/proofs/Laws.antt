@@ -1,30 +1,24 @@
 -- How the walks over runs and cells go on and end.
+use Rattle.std.specs.Prelude.{Some, None}
 use mathlib.Core.Path.{◌≡◌, refl, sym, ap, ◌∙◌}
-use mathlib.Core.Bool.{Bool, true, false, not, ◌&&◌, ◌||◌}
-use mathlib.Core.List.{List, [], ◌∷◌}
+use mathlib.Core.Bool.{true, false, not, ◌&&◌, ◌||◌}
+use mathlib.Core.List.{List}
 use Prim.Native.Nat.{ℕ, zero, suc, ◌+◌, ◌-◌, ◌*◌, ◌<◌, ◌≤◌}
 use native.Mathlib.Omega.{arith}
-use lib.Dec.{eqb, leb, ltb}
+use lib.Dec.{eqb, leb}
 use lib.ListN.{length, drop, get_or}
 use lib.Seq.{get_or-drop}
 use borrow.Author.Tests.{lt-ltb, le-ltb, leb-true}
 use Rattle.ground.specs.Choice.{pick}
-use Rattle.ground.specs.Lists.{every}
-use Rattle.ground.specs.Regions.{blank, part}
+use Rattle.ground.specs.Regions.{blank}
 use Rattle.ground.proofs.Bools.{bool_cases, and_true}
 use Rattle.kinds.specs.Kinds.{is_kind}
-use Rattle.netlist.specs.Rules.{is_trit, resolves}
+use Rattle.netlist.specs.Rules.{resolves}
 use Rattle.netlist.specs.View.{word}
 use Rattle.pools.specs.Lying.{lies}
 use Rattle.checkmeta.proofs.Laws.{lies_is}
 use Rattle.checkcells.specs.Runs.{widths_in, joins_next, run_good, head_good, run_trits, operand_walk}
 use Rattle.checkcells.specs.Walk.{cell_placed, cell_head, cell_good, cells_walk}
-use Rattle.checkcells.specs.declared.runs.Operand.{Operand}
-use Rattle.checkcells.specs.declared.runs.Operand.TheVariants.{Wrong, Wide}
-use Rattle.checkcells.specs.declared.cells.Judged.{Judged}
-use Rattle.checkcells.specs.declared.cells.Judged.TheVariants as verdict
-use Rattle.checkcells.specs.declared.cells.Cells.{Cells}
-use Rattle.checkcells.specs.declared.cells.Cells.TheVariants as cells
 
 -- THE WIDTHS of cells
 pub widths_length : (n : ℕ) (rows : List ℕ) → length (widths_in n rows) ≡ n
@@ -66,11 +60,11 @@ module _ (widths bits runs : List ℕ) (r b w left : ℕ) (h : 0 < left) where
   unfolding operand_walk
   operand_on e = let k : left ≡ suc (left - 1) = omega arith in sym (ap (operand_walk widths bits runs r b w) k ∙ rw (e, operand_walk))
 
-  pub operand_off : head_good widths bits b (left - 1) (drop (r * 3) runs) ≡ false → Wrong ≡ operand_walk widths bits runs r b w left
+  pub operand_off : head_good widths bits b (left - 1) (drop (r * 3) runs) ≡ false → None ≡ operand_walk widths bits runs r b w left
   unfolding operand_walk
   operand_off e = let k : left ≡ suc (left - 1) = omega arith in sym (ap (operand_walk widths bits runs r b w) k ∙ rw (e, operand_walk))
 
-pub operand_end : (widths bits runs : List ℕ) (r b w left : ℕ) → left ≤ 0 → Wide w b ≡ operand_walk widths bits runs r b w left
+pub operand_end : (widths bits runs : List ℕ) (r b w left : ℕ) → left ≤ 0 → Some (w, b) ≡ operand_walk widths bits runs r b w left
 unfolding operand_walk
 operand_end widths bits runs r b w left h = let k : left ≡ 0 = omega arith in rw k
 
@@ -116,7 +110,7 @@ placed_is s r row h =
     let d = lies_is r 4096 (word row 5) (word row 6 + (word row 7 + word row 8)) p.1 in
     record { name = a.0; strings = a.1; first = d.0; runs = d.1 }
 
-pub good_placed : (ws bits runs : List ℕ) (metas s r b : ℕ) (row : List ℕ) (out e : ℕ) → cell_good ws bits runs metas s r b row ≡ verdict.Good out e
+pub good_placed : (ws bits runs : List ℕ) (metas s r b : ℕ) (row : List ℕ) (out e : ℕ) → cell_good ws bits runs metas s r b row ≡ Some (out, e)
     → (is_kind (word row 0) ≡ true) × (cell_placed s r row && cell_head metas (word row 0) row ≡ true)
 unfolding cell_good
 good_placed ws bits runs metas s r b row out e h = bool_cases (is_kind (word row 0))
@@ -127,17 +121,17 @@ good_placed ws bits runs metas s r b row out e h = bool_cases (is_kind (word row
 
 -- ONE TURN OF THE WALK OVER CELLS
 module _ (ws bits runs : List ℕ) (metas : ℕ) (rows : List ℕ) (i s r b d o n : ℕ) where
-  pub cells_on : i < n → (out e : ℕ) → cell_good ws bits runs metas s r b (drop (i * 9) rows) ≡ verdict.Good out e
+  pub cells_on : i < n → (out e : ℕ) → cell_good ws bits runs metas s r b (drop (i * 9) rows) ≡ Some (out, e)
       → cells_walk ws bits runs metas rows (i + 1) (s + word (drop (i * 9) rows) 3) (r + (word (drop (i * 9) rows) 6 + (word (drop (i * 9) rows) 7 + word (drop (i * 9) rows) 8))) e (d + word (drop (i * 9) rows) 1) (o + out) (n - (i + 1))
       ≡ cells_walk ws bits runs metas rows i s r b d o (n - i)
   unfolding cells_walk
   cells_on h out e g = let k : n - i ≡ suc (n - (i + 1)) = omega arith in rw k (sym (rw (g, cells_walk)))
 
-  pub cells_off : i < n → cell_good ws bits runs metas s r b (drop (i * 9) rows) ≡ verdict.Wrong → cells.Wrong ≡ cells_walk ws bits runs metas rows i s r b d o (n - i)
+  pub cells_off : i < n → cell_good ws bits runs metas s r b (drop (i * 9) rows) ≡ None → None ≡ cells_walk ws bits runs metas rows i s r b d o (n - i)
   unfolding cells_walk
   cells_off h g = let k : n - i ≡ suc (n - (i + 1)) = omega arith in rw k (sym (rw (g, cells_walk)))
 
-  pub cells_end : n ≤ i → pick (blank (drop (i * 9) rows)) (cells.Ends s r b d o) cells.Wrong ≡ cells_walk ws bits runs metas rows i s r b d o (n - i)
+  pub cells_end : n ≤ i → pick (blank (drop (i * 9) rows)) (Some (s, r, b, d, o)) None ≡ cells_walk ws bits runs metas rows i s r b d o (n - i)
   unfolding cells_walk
   cells_end h = let k : n - i ≡ 0 = omega arith in rw k
 
@@ -151,7 +145,7 @@ pub record Telling (ws bits runs : List ℕ) (metas : ℕ) (rows : List ℕ) (na
   pub is : cells_walk ws bits runs metas rows i s r b d o (n - i) ≡ cells_walk ws bits runs metas rows 0 names 0 0 0 0 n
 
 pub telling_on : {ws bits runs : List ℕ} {metas : ℕ} {rows : List ℕ} {names n i s r b d o : ℕ} → Telling ws bits runs metas rows names n i s r b d o → i < n
-    → (out e : ℕ) → out < 17592186044417 → e ≤ 262656 → cell_good ws bits runs metas s r b (drop (i * 9) rows) ≡ verdict.Good out e → (x y z w v : ℕ)
+    → (out e : ℕ) → out < 17592186044417 → e ≤ 262656 → cell_good ws bits runs metas s r b (drop (i * 9) rows) ≡ Some (out, e) → (x y z w v : ℕ)
     → x ≡ get_or rows (i * 9 + 3) 0 → y ≡ get_or rows (i * 9 + 6) 0 → z ≡ get_or rows (i * 9 + 7) 0 → w ≡ get_or rows (i * 9 + 8) 0 → v ≡ get_or rows (i * 9 + 1) 0 → v < 4294967296
     → Telling ws bits runs metas rows names n (i + 1) (s + x) (r + (y + (z + w))) e (d + v) (o + out)
 telling_on {ws} {bits} {runs} {metas} {rows} {names} {n} {i} {s} {r} {b} {d} {o} k h out e lo le g x y z w v p₁ p₂ p₃ p₄ p₅ lv =

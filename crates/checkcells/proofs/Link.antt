@@ -1,15 +1,15 @@
 -- The walk over cell rows comes to its end exactly where they are laid out as the cells that they show, which are sound.
-use mathlib.Core.Path.{◌≡◌, refl, sym, ap, ◌∙◌, subst}
-use mathlib.Core.Bool.{Bool, true, false, ◌&&◌}
-use mathlib.Core.List.{List, [], ◌∷◌, ◌++◌, append_assoc, map}
-use Prim.Native.Nat.{ℕ, zero, suc, ◌+◌, ◌-◌, ◌*◌, ◌<◌, ◌≤◌}
+use Rattle.std.specs.Prelude.{Option, Some, None}
+use mathlib.Core.Path.{◌≡◌, refl, sym, ap, ◌∙◌}
+use mathlib.Core.Bool.{Bool, true}
+use mathlib.Core.List.{List, [], ◌∷◌, ◌++◌, append_assoc}
+use Prim.Native.Nat.{ℕ, zero, suc, ◌+◌, ◌*◌, ◌≤◌}
 use native.Mathlib.Omega.{arith}
 use native.Mathlib.Nat.{add-zero}
-use lib.ListN.{length, drop, get_or, length-append, length-drop}
-use Rattle.ground.specs.Choice.{pick}
+use lib.ListN.{length, drop, length-append, length-drop}
 use Rattle.ground.specs.Lists.{every, joined, total}
 use Rattle.ground.specs.Regions.{blank, fits, part}
-use Rattle.ground.proofs.Bools.{bool_cases, never_both, every_first, every_more}
+use Rattle.ground.proofs.Bools.{bool_cases, every_first, every_more}
 use Rattle.ground.proofs.Rest.{rest_rest}
 use Rattle.netlist.specs.Netlist.{Run, Cell, cell_runs, runs_of, run_bits_of}
 use Rattle.netlist.specs.Rules.{cell_sound, output_bits, short_string, widths_of}
@@ -19,12 +19,8 @@ use Rattle.netlist.proofs.Lengths.{run_bits_append}
 use Rattle.checkmeta.proofs.Fits.{fits_word, fits_first, part_rest}
 use Rattle.checkcells.specs.Runs.{widths_in}
 use Rattle.checkcells.specs.Walk.{cell_good, cells_walk}
-use Rattle.checkcells.specs.declared.cells.Judged.{Judged}
-use Rattle.checkcells.specs.declared.cells.Judged.TheVariants as verdict
-use Rattle.checkcells.specs.declared.cells.Cells.{Cells}
-use Rattle.checkcells.specs.declared.cells.Cells.TheVariants as cells
 use Rattle.checkcells.proofs.Laws.{Placed}
-use Rattle.checkcells.proofs.CellLink.{Pools, Shown, placed_shown, Told, good_told, sound_good, rows_append, bits_append, length_runs_in}
+use Rattle.checkcells.proofs.CellLink.{Pools, Shown, placed_shown, good_told, sound_good, rows_append, bits_append, length_runs_in}
 
 abbrev pub cells_from : Tables → ℕ → ℕ → List Cell
 cells_from T i n = cells_in T (pool_in T) n (drop (i * 9) T.cells)
@@ -103,7 +99,7 @@ runs_long : (c : Cell) → length (cell_runs c) ≡ length c.a + (length c.b + l
 runs_long c = rw (length-append, length-append)
 
 module _ (T : Tables) (P : Pools T) (ws : List ℕ) (metas : ℕ) where
-  laid_more : (i s r b d o n x y z v w out e : ℕ) → (i + suc n) * 9 ≤ length T.cells → cell_good ws T.run_bits T.runs metas s r b (drop (i * 9) T.cells) ≡ verdict.Good out e
+  laid_more : (i s r b d o n x y z v w out e : ℕ) → (i + suc n) * 9 ≤ length T.cells → cell_good ws T.run_bits T.runs metas s r b (drop (i * 9) T.cells) ≡ Some (out, e)
       → Laid T ws metas (i + 1) (s + word (drop (i * 9) T.cells) 3) (r + (word (drop (i * 9) T.cells) 6 + (word (drop (i * 9) T.cells) 7 + word (drop (i * 9) T.cells) 8))) e (d + word (drop (i * 9) T.cells) 1) (o + out) n x y z v w
       → Laid T ws metas i s r b d o (suc n) x y z v w
   unfolding cells_in cell_rows joined total
@@ -157,21 +153,21 @@ module _ (T : Tables) (P : Pools T) (ws : List ℕ) (metas : ℕ) where
 
   -- A WALK THAT COMES TO ITS END
   pub walked : (n i s r b d o x y z v w : ℕ) → s ≤ 16384 → r ≤ 4096 → (i + n) * 9 ≤ length T.cells
-      → cells_walk ws T.run_bits T.runs metas T.cells i s r b d o n ≡ cells.Ends x y z v w → Laid T ws metas i s r b d o n x y z v w
+      → cells_walk ws T.run_bits T.runs metas T.cells i s r b d o n ≡ Some (x, y, z, v, w) → Laid T ws metas i s r b d o n x y z v w
   unfolding cells_walk
   walked zero i s r b d o x y z v w p q h k = bool_cases (blank (drop (i * 9) T.cells))
-      (λ e. let f : cells.Ends s r b d o ≡ cells.Ends x y z v w = rw e at k in laid_none i s r b d o x y z v w p q e (cc (f)) (cc (f)) (cc (f)) (cc (f)) (cc (f)))
-      (λ e. let f : cells.Wrong ≡ cells.Ends x y z v w = rw e at k in let u : ◌≡◌ {A = ℕ} 0 1 = cc (f) in absurd (omega arith))
+      (λ e. let f : Some (s, r, b, d, o) ≡ Some (x, y, z, v, w) = rw e at k in let t : ◌≡◌ {A = ℕ × ℕ × ℕ × ℕ × ℕ} (s, r, b, d, o) (x, y, z, v, w) = cc (f) in laid_none i s r b d o x y z v w p q e (ap (λ (u : ℕ × ℕ × ℕ × ℕ × ℕ). u.0) t) (ap (λ (u : ℕ × ℕ × ℕ × ℕ × ℕ). u.1) t) (ap (λ (u : ℕ × ℕ × ℕ × ℕ × ℕ). u.2) t) (ap (λ (u : ℕ × ℕ × ℕ × ℕ × ℕ). u.3) t) (ap (λ (u : ℕ × ℕ × ℕ × ℕ × ℕ). u.4) t))
+      (λ e. let f : ◌≡◌ {A = Option (ℕ × ℕ × ℕ × ℕ × ℕ)} None (Some (x, y, z, v, w)) = rw e at k in let u : ◌≡◌ {A = ℕ} 0 1 = cc (f) in absurd (omega arith))
   walked (suc n) i s r b d o x y z v w p q h k =
       turn (λ out e. walked n (i + 1) (s + word (drop (i * 9) T.cells) 3) (r + (word (drop (i * 9) T.cells) 6 + (word (drop (i * 9) T.cells) 7 + word (drop (i * 9) T.cells) 8))) e (d + word (drop (i * 9) T.cells) 1) (o + out) x y z v w)
       (cell_good ws T.run_bits T.runs metas s r b (drop (i * 9) T.cells)) refl
     where
       turn : ((out e : ℕ) → s + word (drop (i * 9) T.cells) 3 ≤ 16384 → r + (word (drop (i * 9) T.cells) 6 + (word (drop (i * 9) T.cells) 7 + word (drop (i * 9) T.cells) 8)) ≤ 4096 → (i + 1 + n) * 9 ≤ length T.cells
-          → cells_walk ws T.run_bits T.runs metas T.cells (i + 1) (s + word (drop (i * 9) T.cells) 3) (r + (word (drop (i * 9) T.cells) 6 + (word (drop (i * 9) T.cells) 7 + word (drop (i * 9) T.cells) 8))) e (d + word (drop (i * 9) T.cells) 1) (o + out) n ≡ cells.Ends x y z v w
+          → cells_walk ws T.run_bits T.runs metas T.cells (i + 1) (s + word (drop (i * 9) T.cells) 3) (r + (word (drop (i * 9) T.cells) 6 + (word (drop (i * 9) T.cells) 7 + word (drop (i * 9) T.cells) 8))) e (d + word (drop (i * 9) T.cells) 1) (o + out) n ≡ Some (x, y, z, v, w)
           → Laid T ws metas (i + 1) (s + word (drop (i * 9) T.cells) 3) (r + (word (drop (i * 9) T.cells) 6 + (word (drop (i * 9) T.cells) 7 + word (drop (i * 9) T.cells) 8))) e (d + word (drop (i * 9) T.cells) 1) (o + out) n x y z v w)
-          → (c : Judged) → cell_good ws T.run_bits T.runs metas s r b (drop (i * 9) T.cells) ≡ c → Laid T ws metas i s r b d o (suc n) x y z v w
-      turn ih verdict.Wrong g = let f : cells.Wrong ≡ cells.Ends x y z v w = rw (g, cells_walk) at k in let u : ◌≡◌ {A = ℕ} 0 1 = cc (f) in absurd (omega arith)
-      turn ih (verdict.Good out e) g =
+          → (c : Option (ℕ × ℕ)) → cell_good ws T.run_bits T.runs metas s r b (drop (i * 9) T.cells) ≡ c → Laid T ws metas i s r b d o (suc n) x y z v w
+      turn ih None g = let f : ◌≡◌ {A = Option (ℕ × ℕ × ℕ × ℕ × ℕ)} None (Some (x, y, z, v, w)) = rw (g, cells_walk) at k in let u : ◌≡◌ {A = ℕ} 0 1 = cc (f) in absurd (omega arith)
+      turn ih (Some (out, e)) g =
           let t = (good_told T P ws metas s r b (drop (i * 9) T.cells) out e g).placed in
           laid_more i s r b d o n x y z v w out e h g (ih out e t.strings t.runs (omega arith) (rw (g, cells_walk) at k))
 
@@ -182,8 +178,7 @@ module _ (T : Tables) (P : Pools T) (ws : List ℕ) (metas : ℕ) where
       → every (cell_sound ws metas) (cells_from T i n) ≡ true → every short_cell (cells_from T i n) ≡ true
       → s + length (names_of (cells_from T i n)) ≤ 16384 → r + length (runs_of (cells_from T i n)) ≤ 4096 → b + length (run_bits_of (runs_of (cells_from T i n))) ≤ 262656
       → cells_walk ws T.run_bits T.runs metas T.cells i s r b d o n
-      ≡ cells.Ends (s + length (names_of (cells_from T i n))) (r + length (runs_of (cells_from T i n))) (b + length (run_bits_of (runs_of (cells_from T i n))))
-      (d + total (λ (c : Cell). c.width) (cells_from T i n)) (o + total output_bits (cells_from T i n))
+      ≡ Some (s + length (names_of (cells_from T i n)), r + length (runs_of (cells_from T i n)), b + length (run_bits_of (runs_of (cells_from T i n))), d + total (λ (c : Cell). c.width) (cells_from T i n), o + total output_bits (cells_from T i n))
   unfolding cells_in cell_rows joined total cells_walk fits
   walks zero i s r b d o rest h f m g k p q u = rw (f, add-zero s, add-zero r, add-zero b, add-zero d, add-zero o)
   walks (suc n) i s r b d o rest h f m g k p q u =

@@ -1,20 +1,21 @@
 -- The walk over the runs of an operand comes to its end exactly where they are laid out as the runs that they show, which are sound.
-use mathlib.Core.Path.{◌≡◌, refl, sym, ap, ap₂, ◌∙◌, subst}
-use mathlib.Core.Bool.{Bool, true, false, not, ◌&&◌, ◌||◌}
+use Rattle.std.specs.Prelude.{Some, None}
+use mathlib.Core.Path.{◌≡◌, refl, sym, ap, ◌∙◌}
+use mathlib.Core.Bool.{true, not, ◌&&◌, ◌||◌}
 use mathlib.Core.List.{List, [], ◌∷◌, ◌++◌, append_assoc}
-use Prim.Native.Nat.{ℕ, zero, suc, ◌+◌, ◌-◌, ◌*◌, ◌<◌, ◌≤◌}
+use Prim.Native.Nat.{ℕ, zero, suc, ◌+◌, ◌-◌, ◌*◌, ◌≤◌}
 use native.Mathlib.Omega.{arith}
-use native.Mathlib.Nat.{add-zero, zero-add}
+use native.Mathlib.Nat.{add-zero}
 use native.Mathlib.Decide.{ℕ_discrete}
 use lib.Dec.{eqb, leb, eqb-suc-zero}
-use lib.ListN.{length, drop, take, get_or, length-append, length-drop}
-use lib.Seq.{get_or-drop, drop-drop}
-use borrow.Author.Tests.{eq-eqb, ne_eqb, eqb-true, eqb-false, leb-true, le-leb}
+use lib.ListN.{length, drop, get_or, length-append, length-drop}
+use lib.Seq.{get_or-drop}
+use borrow.Author.Tests.{eq-eqb, ne_eqb, le-leb}
 use Rattle.ground.specs.Choice.{pick}
 use Rattle.ground.specs.Lists.{every, joined, total}
 use Rattle.ground.specs.Regions.{part}
 use Rattle.ground.proofs.Bools.{bool_cases, never_both, and_true, true_and, every_first, every_more}
-use Rattle.ground.proofs.Rest.{rest_cons, rest_rest}
+use Rattle.ground.proofs.Rest.{rest_rest}
 use Rattle.ground.proofs.Regions.{part_length}
 use Rattle.netlist.specs.Netlist.{Run, const, piece, run_width, operand_width, bits_in, run_bits_of}
 use Rattle.netlist.specs.Rules.{is_trit, resolves, run_sound, operand_sound}
@@ -24,9 +25,8 @@ use Rattle.netlist.specs.View.{word, run_in, runs_in}
 use Rattle.pools.specs.Lying.{lies}
 use Rattle.checkmeta.proofs.Laws.{lies_is}
 use Rattle.checkmeta.proofs.Fits.{part_rest}
+use Rattle.ground.proofs.Pairs.{some_first, some_second}
 use Rattle.checkcells.specs.Runs.{joins_next, run_good, head_good, run_trits, operand_walk}
-use Rattle.checkcells.specs.declared.runs.Operand.{Operand}
-use Rattle.checkcells.specs.declared.runs.Operand.TheVariants.{Wrong, Wide}
 use Rattle.checkcells.proofs.Laws.{head_run}
 
 -- the rows behind a row
@@ -178,19 +178,19 @@ module _ (T : Tables) (l : length T.run_bits ≡ 262656) (ws : List ℕ) where
     sound = refl;
   }
 
-  pub operand_walked : (n r b w x e : ℕ) → (r + n) * 3 ≤ length T.runs → operand_walk ws T.run_bits T.runs r b w n ≡ Wide x e → Operands T ws r b w n x e
+  pub operand_walked : (n r b w x e : ℕ) → (r + n) * 3 ≤ length T.runs → operand_walk ws T.run_bits T.runs r b w n ≡ Some (x, e) → Operands T ws r b w n x e
   unfolding operand_walk
-  operand_walked zero r b w x e h k = operand_none r b w x e (cc (k)) (cc (k))
+  operand_walked zero r b w x e h k = operand_none r b w x e (some_first k) (some_second k)
   operand_walked (suc n) r b w x e h k =
       let R = drop (r * 3) T.runs in
       bool_cases (head_good ws T.run_bits b n R)
       (λ g. operand_more r b w n x e (rw length-drop (omega arith)) g (operand_walked n (r + 1) (b + run_trits R) (w + word R 2) x e (omega arith) (rw (g, operand_walk) at k)))
-      (λ g. let d : Wrong ≡ Wide x e = rw (g, operand_walk) at k in let z : ◌≡◌ {A = ℕ} 0 1 = cc (d) in absurd (omega arith))
+      (λ g. let d : None ≡ Some (x, e) = rw (g, operand_walk) at k in let z : ◌≡◌ {A = ℕ} 0 1 = cc (d) in absurd (omega arith))
 
   -- and back
   pub operand_walks : (n r b w : ℕ) (rest : List ℕ) → drop (r * 3) T.runs ≡ run_rows b (runs_in T n (drop (r * 3) T.runs)) ++ rest
       → b + length (run_bits_of (runs_in T n (drop (r * 3) T.runs))) ≤ 262656 → operand_sound ws (runs_in T n (drop (r * 3) T.runs)) ≡ true
-      → (operand_walk ws T.run_bits T.runs r b w n ≡ Wide (w + operand_width (runs_in T n (drop (r * 3) T.runs))) (b + length (run_bits_of (runs_in T n (drop (r * 3) T.runs)))))
+      → (operand_walk ws T.run_bits T.runs r b w n ≡ Some (w + operand_width (runs_in T n (drop (r * 3) T.runs)), b + length (run_bits_of (runs_in T n (drop (r * 3) T.runs)))))
       × (drop ((r + n) * 3) T.runs ≡ rest)
   unfolding runs_in run_rows joined total operand_walk head_good
   operand_walks zero r b w rest h m s = (rw (add-zero w, add-zero b), rw (add-zero r) h)

@@ -1,14 +1,12 @@
 -- A walk over the run rows of an operand: each constant begins in the pool of trits where those before it end, each run keeps the
 -- rules, and no two neighbours are one run.
-use Rattle.std.specs.Prelude.{ℕ, zero, suc, ◌+◌, ◌-◌, ◌*◌, Bool, true, false, not, ◌&&◌, ◌||◌, List, [], ◌∷◌, leb, eqb, drop}
+use Rattle.std.specs.Prelude.{ℕ, zero, suc, ◌+◌, ◌-◌, ◌*◌, Bool, true, false, not, ◌&&◌, ◌||◌, List, [], ◌∷◌, leb, eqb, drop, Option, Some, None}
 use Rattle.ground.specs.Choice.{pick}
 use Rattle.ground.specs.Lists.{every}
 use Rattle.ground.specs.Regions.{part}
 use Rattle.netlist.specs.Rules.{is_trit, resolves}
 use Rattle.netlist.specs.View.{word}
 use Rattle.pools.specs.Lying.{lies}
-use Rattle.checkcells.specs.declared.runs.Operand.{Operand}
-use Rattle.checkcells.specs.declared.runs.Operand.TheVariants.{Wrong, Wide}
 
 -- the widths of the first n cell rows
 unfoldable pub widths_in : ℕ → List ℕ → List ℕ
@@ -37,18 +35,18 @@ abbrev pub run_trits : List ℕ → ℕ
 run_trits row = pick (eqb (word row 0) 0) (word row 2) 0
 
 -- so many runs from the run r on; b trits and w bits lie before them
-unfoldable pub operand_walk : List ℕ → List ℕ → List ℕ → ℕ → ℕ → ℕ → ℕ → Operand
-operand_walk widths bits runs r b w zero = Wide w b
+unfoldable pub operand_walk : List ℕ → List ℕ → List ℕ → ℕ → ℕ → ℕ → ℕ → Option (ℕ × ℕ)
+operand_walk widths bits runs r b w zero = Some (w, b)
 operand_walk widths bits runs r b w (suc left) =
     elim (head_good widths bits b left (drop (r * 3) runs)) [
       | true ↦ operand_walk widths bits runs (r + 1) (b + run_trits (drop (r * 3) runs)) (w + word (drop (r * 3) runs) 2) left
-      | false ↦ Wrong
+      | false ↦ None
     ]
 
-abbrev pub wide_of : Operand → ℕ
-wide_of Wrong = 0
-wide_of (Wide w b) = w
+abbrev pub wide_of : Option (ℕ × ℕ) → ℕ
+wide_of None = 0
+wide_of (Some (w, b)) = w
 
-abbrev pub end_of : Operand → ℕ
-end_of Wrong = 0
-end_of (Wide w b) = b
+abbrev pub end_of : Option (ℕ × ℕ) → ℕ
+end_of None = 0
+end_of (Some (w, b)) = b

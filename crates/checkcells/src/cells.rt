@@ -4,30 +4,9 @@ ghost use Rattle.kinds.specs.Kinds.{is_kind};
 ghost use Rattle.checkcells.specs.Runs.{widths_in};
 ghost use Rattle.checkcells.specs.Walk.{cell_named, cell_head, cell_placed, operands_walk, first_of, end_of, judged, out_width, out_of, trits_of, cell_good, cells_walk, runs_upto};
 
-use crate::runs::{Operand, operand_of};
+use crate::runs::operand_of;
 use kinds::{fits, has_name, operands_of};
 use pools::{blank_words, both, lies_at, word_of};
-
-// What the three operands of a cell are: their widths, and where their trits end.
-#[derive(Clone, Copy)]
-pub enum Widths {
-    Wrong,
-    Of(usize, usize, usize, usize),
-}
-
-// What a cell row is: how many bits it puts out, and where its trits end.
-#[derive(Clone, Copy)]
-pub enum Judged {
-    Wrong,
-    Good(usize, usize),
-}
-
-// What a walk over cell rows ends with: where the strings, the runs and the trits end, and the sums of widths and of output bits.
-#[derive(Clone, Copy)]
-pub enum Cells {
-    Wrong,
-    Ends(usize, usize, usize, usize, usize),
-}
 
 fn kind_known(kind: u32) -> bool
     ensures { result ≡ is_kind kind }
@@ -102,22 +81,14 @@ fn operands_good(
     b: usize,
     c: usize,
     e: usize,
-) -> Widths
+) -> Option<(usize, usize, usize, usize)>
     requires { (n * 9 ≤ length cells.now) × (length runs.now ≡ 12288) × (length bits.now ≡ 262656) × (first + (a + (b + c)) ≤ 4096) × (e ≤ 262656) }
     ensures { (result ≡ operands_walk (widths_in n cells.now) bits.now runs.now first e a b c) × (first_of result < 17592186044417) × (end_of result ≤ 262656) }
 {
-    match operand_of(cells, n, runs, bits, first, a, e) {
-        Operand::Wrong => Widths::Wrong,
-        Operand::Wide(x, f) => match operand_of(cells, n, runs, bits, first + a, b, f) {
-            Operand::Wrong => Widths::Wrong,
-            Operand::Wide(y, g) => {
-                match operand_of(cells, n, runs, bits, first + a + b, c, g) {
-                    Operand::Wrong => Widths::Wrong,
-                    Operand::Wide(z, h) => Widths::Of(x, y, z, h),
-                }
-            }
-        },
-    }
+    let (x, f) = operand_of(cells, n, runs, bits, first, a, e)?;
+    let (y, g) = operand_of(cells, n, runs, bits, first + a, b, f)?;
+    let (z, h) = operand_of(cells, n, runs, bits, first + a + b, c, g)?;
+    Some((x, y, z, h))
 }
 
 // The bits that a cell puts out, given the width of its first operand.
@@ -131,19 +102,19 @@ fn out_width(kind: u8, a: usize) -> usize
 }
 
 // The width rule of a cell.
-fn judge(kind: u8, width: usize, operands: Widths) -> Judged
+fn judge(
+    kind: u8,
+    width: usize,
+    operands: Option<(usize, usize, usize, usize)>,
+) -> Option<(usize, usize)>
     requires { (first_of operands < 17592186044417) × (end_of operands ≤ 262656) }
     ensures { (result ≡ judged kind width operands) × (out_of result < 17592186044417) × (trits_of result ≤ 262656) }
 {
-    match operands {
-        Widths::Wrong => Judged::Wrong,
-        Widths::Of(x, y, z, e) => {
-            if fits(kind, width as u64, x as u64, y as u64, z as u64) {
-                return Judged::Good(out_width(kind, x), e);
-            }
-            Judged::Wrong
-        }
+    let (x, y, z, e) = operands?;
+    if fits(kind, width as u64, x as u64, y as u64, z as u64) {
+        return Some((out_width(kind, x), e));
     }
+    None
 }
 
 // Whether a cell row is one of a good table, where the rows before it are.
@@ -157,7 +128,7 @@ fn cell_good(
     s: usize,
     r: usize,
     b: usize,
-) -> Judged
+) -> Option<(usize, usize)>
     requires { (n * 9 ≤ length cells.now) × (9 ≤ length row.now) × (length runs.now ≡ 12288) × (length bits.now ≡ 262656) × (s ≤ 16384) × (r ≤ 4096) × (b ≤ 262656) }
     ensures { (result ≡ cell_good (widths_in n cells.now) bits.now runs.now metas s r b row.now) × (out_of result < 17592186044417) × (trits_of result ≤ 262656) }
 {
@@ -177,9 +148,9 @@ fn cell_good(
             );
             return judge(kind, word_of(row, 1), found);
         }
-        return Judged::Wrong;
+        return None;
     }
-    Judged::Wrong
+    None
 }
 
 // The walk over n rows, where the names begin at s: whether they are good and nothing stands behind them.
@@ -190,34 +161,26 @@ pub fn cells_good(
     runs: &[u32],
     bits: &[u8],
     names: usize,
-) -> Cells
+) -> Option<(usize, usize, usize, usize, usize)>
     requires { (n * 9 ≤ length cells.now) × (length cells.now ≡ 4608) × (length runs.now ≡ 12288) × (length bits.now ≡ 262656) × (names ≤ 16384) }
     ensures { (result ≡ cells_walk (widths_in n cells.now) bits.now runs.now metas cells.now 0 names 0 0 0 0 n) × (runs_upto result ≤ 4096) }
 {
-    let mut i = 0;
     let mut s = names;
     let mut r = 0;
     let mut b = 0;
     let mut d = 0;
     let mut o = 0;
-    while i < n {
+    for i in 0..n {
         let at = i * 9;
-        match cell_good(cells, n, &cells[at..], metas, runs, bits, s, r, b) {
-            Judged::Wrong => {
-                return Cells::Wrong;
-            }
-            Judged::Good(out, e) => {
-                s += word_of(cells, at + 3);
-                r += word_of(cells, at + 6) + (word_of(cells, at + 7) + word_of(cells, at + 8));
-                b = e;
-                d += word_of(cells, at + 1);
-                o += out;
-                i += 1;
-            }
-        }
+        let (out, e) = cell_good(cells, n, &cells[at..], metas, runs, bits, s, r, b)?;
+        s += word_of(cells, at + 3);
+        r += word_of(cells, at + 6) + (word_of(cells, at + 7) + word_of(cells, at + 8));
+        b = e;
+        d += word_of(cells, at + 1);
+        o += out;
     }
-    if blank_words(cells, i * 9) {
-        return Cells::Ends(s, r, b, d, o);
+    if blank_words(cells, n * 9) {
+        return Some((s, r, b, d, o));
     }
-    Cells::Wrong
+    None
 }

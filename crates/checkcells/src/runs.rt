@@ -8,13 +8,6 @@ ghost use Rattle.checkcells.specs.Runs.{widths_in, joins_next, run_good, head_go
 
 use pools::{all_trits, lies_at, word_of};
 
-// What a walk over the runs of an operand ends with: its width, and where its trits end.
-#[derive(Clone, Copy)]
-pub enum Operand {
-    Wrong,
-    Wide(usize, usize),
-}
-
 // Whether a piece resolves: one look at its cell's row.
 fn resolves_in(cells: &[u32], n: usize, row: usize, offset: usize, width: usize) -> bool
     requires { (n * 9 ≤ length cells.now) × (offset < 4294967296) × (width < 4294967296) }
@@ -111,24 +104,19 @@ pub(crate) fn operand_of(
     first: usize,
     count: usize,
     b: usize,
-) -> Operand
+) -> Option<(usize, usize)>
     requires { (n * 9 ≤ length cells.now) × (length runs.now ≡ 12288) × (first + count ≤ 4096) × (length bits.now ≡ 262656) × (b ≤ 262656) }
     ensures { (result ≡ operand_walk (widths_in n cells.now) bits.now runs.now first b 0 count) × (wide_of result < 17592186044417) × (end_of result ≤ 262656) }
 {
-    let mut left = count;
-    let mut r = first;
     let mut e = b;
     let mut w = 0;
-    while 0 < left {
-        let at = r * 3;
-        if head_good(cells, n, &runs[at..], bits, e, left - 1) {
-            e += trits_of(runs, at);
-            w += word_of(runs, at + 2);
-            r += 1;
-            left -= 1;
-        } else {
-            return Operand::Wrong;
+    for i in 0..count {
+        let at = (first + i) * 3;
+        if !head_good(cells, n, &runs[at..], bits, e, count - 1 - i) {
+            return None;
         }
+        e += trits_of(runs, at);
+        w += word_of(runs, at + 2);
     }
-    Operand::Wide(w, e)
+    Some((w, e))
 }

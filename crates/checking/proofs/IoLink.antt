@@ -1,32 +1,29 @@
 -- The walk over I/O rows comes to its end exactly where they are laid out as the I/O that they show, which is sound; and the names in
 -- the rows are those of the netlist.
+use Rattle.std.specs.Prelude.{Some, None}
 use mathlib.Core.Path.{◌≡◌, refl, sym, ap, ◌∙◌}
-use mathlib.Core.Bool.{Bool, true, false, not, ◌&&◌}
-use mathlib.Core.List.{List, [], ◌∷◌, ◌++◌, append_assoc, map}
-use Prim.Native.Nat.{ℕ, zero, suc, ◌+◌, ◌-◌, ◌*◌, ◌<◌, ◌≤◌}
+use mathlib.Core.Bool.{Bool, true, not}
+use mathlib.Core.List.{List, ◌∷◌, ◌++◌, append_assoc}
+use Prim.Native.Nat.{ℕ, zero, suc, ◌+◌, ◌*◌, ◌≤◌}
 use native.Mathlib.Omega.{arith}
 use native.Mathlib.Nat.{add-zero}
-use native.Mathlib.Decide.{ℕ_discrete}
 use lib.Dec.{eqb, leb}
-use lib.ListN.{length, drop, get_or, length-append, length-drop}
+use lib.ListN.{length, drop, length-append, length-drop}
 use borrow.Author.Tests.{eq-eqb, ne_eqb, leb-true, le-leb}
-use Rattle.ground.specs.Choice.{pick}
-use Rattle.ground.specs.Lists.{every, all_of, joined}
+use Rattle.ground.specs.Lists.{every, joined}
 use Rattle.ground.specs.Regions.{blank, fits, part}
-use Rattle.ground.proofs.Bools.{bool_cases, never_both, and_true, true_and, fact, facts, every_first, every_more, some_back}
+use Rattle.ground.proofs.Bools.{bool_cases, and_true, true_and, fact, facts, every_first, every_more, some_back}
 use Rattle.ground.proofs.Rest.{rest_rest}
 use Rattle.ground.proofs.Regions.{part_length}
 use Rattle.kinds.specs.Kinds.{wide}
-use Rattle.netlist.specs.Netlist.{Run, Io, Cell}
+use Rattle.netlist.specs.Netlist.{Run, Io}
 use Rattle.netlist.specs.Rules.{is_byte, is_empty, io_sound, short_string, io_names, names_as}
-use Rattle.netlist.specs.Tables.{Tables, io_row, io_rows}
-use Rattle.netlist.specs.View.{word, io_in, ios_in, cell_in, cells_in}
+use Rattle.netlist.specs.Tables.{Tables, io_rows}
+use Rattle.netlist.specs.View.{word, io_in, ios_in, cells_in}
 use Rattle.pools.specs.Lying.{lies}
 use Rattle.checkmeta.proofs.Fits.{fits_word, fits_first, every_part, part_rest, none}
 use Rattle.checking.specs.Names.{io_name, cell_name, io_names_in, cell_names_in}
 use Rattle.checking.specs.Walk.{name_wide, io_good, ios_walk}
-use Rattle.checking.specs.declared.ios.Upto.{Upto}
-use Rattle.checking.specs.declared.ios.Upto.TheVariants.{Wrong, At}
 use Rattle.checking.proofs.Laws.{io_placed}
 
 -- NAMES
@@ -112,20 +109,20 @@ module _ (T : Tables) (ls : length T.strings ≡ 16384) (bytes : every is_byte T
   unfolding ios_in io_rows joined fits every
   laid_none i s x p h e = record { rows = h; strings = rw e; sound = refl; short = refl; s_room = rw (← e) p }
 
-  pub walked : (n i s x : ℕ) → s ≤ 16384 → (i + n) * 3 ≤ length T.ios → ios_walk T.ios i s n ≡ At x → Laid T i s n x
+  pub walked : (n i s x : ℕ) → s ≤ 16384 → (i + n) * 3 ≤ length T.ios → ios_walk T.ios i s n ≡ Some x → Laid T i s n x
   unfolding ios_walk
   walked zero i s x p h w = bool_cases (blank (drop (i * 3) T.ios))
-      (λ e. let d : At s ≡ At x = rw e at w in laid_none i s x p e (cc (d)))
-      (λ e. let d : Wrong ≡ At x = rw e at w in let k : ◌≡◌ {A = ℕ} 0 1 = cc (d) in absurd (omega arith))
+      (λ e. let d : Some s ≡ Some x = rw e at w in laid_none i s x p e (cc (d)))
+      (λ e. let d : None ≡ Some x = rw e at w in let k : ◌≡◌ {A = ℕ} 0 1 = cc (d) in absurd (omega arith))
   walked (suc n) i s x p h w =
       let R = drop (i * 3) T.ios in
       bool_cases (io_good s R)
       (λ g. laid_more i s n x h g (walked n (i + 1) (s + word R 1) x (io_placed s R g).1 (omega arith) (rw (g, ios_walk) at w)))
-      (λ g. let d : Wrong ≡ At x = rw (g, ios_walk) at w in let k : ◌≡◌ {A = ℕ} 0 1 = cc (d) in absurd (omega arith))
+      (λ g. let d : None ≡ Some x = rw (g, ios_walk) at w in let k : ◌≡◌ {A = ℕ} 0 1 = cc (d) in absurd (omega arith))
 
   pub walks : (n i s : ℕ) → (i + n) * 3 ≤ length T.ios → fits (io_rows s (ios_from T i n)) (drop (i * 3) T.ios) ≡ true
       → every io_sound (ios_from T i n) ≡ true → every short_io (ios_from T i n) ≡ true → s + length (names_of (ios_from T i n)) ≤ 16384
-      → ios_walk T.ios i s n ≡ At (s + length (names_of (ios_from T i n)))
+      → ios_walk T.ios i s n ≡ Some (s + length (names_of (ios_from T i n)))
   unfolding ios_in io_rows joined ios_walk fits
   walks zero i s h f g k p = rw (f, add-zero s)
   walks (suc n) i s h f g k p =

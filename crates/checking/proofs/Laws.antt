@@ -1,36 +1,29 @@
 -- How the loops over names and I/O rows go on and end.
+use Rattle.std.specs.Prelude.{Option, Some, None}
 use mathlib.Core.Path.{◌≡◌, refl, sym, ap, ◌∙◌}
 use mathlib.Core.Bool.{Bool, true, false, ◌&&◌}
-use mathlib.Core.List.{List, [], ◌∷◌}
+use mathlib.Core.List.{List, ◌∷◌}
 use Prim.Native.Nat.{ℕ, zero, suc, ◌+◌, ◌-◌, ◌*◌, ◌<◌, ◌≤◌}
 use native.Mathlib.Omega.{arith}
-use native.Mathlib.Decide.{ℕ_discrete}
 use native.Mathlib.Nat.{add-zero, zero-add}
-use lib.Dec.{eqb, leb}
+use lib.Dec.{eqb}
 use lib.ListN.{length, drop, take, get_or}
 use lib.Seq.{get_or-drop}
-use borrow.Author.Tests.{eq-eqb, ne_eqb}
 use Rattle.ground.specs.Choice.{pick}
 use Rattle.ground.specs.Regions.{blank, part}
 use Rattle.ground.specs.Text.{same}
 use Rattle.ground.proofs.Bools.{bool_cases, and_true}
 use Rattle.ground.proofs.Regions.{part_length}
-use Rattle.ground.proofs.Rest.{rest_cons, rest_end, rest_rest}
+use Rattle.ground.proofs.Rest.{rest_rest}
 use Rattle.ground.proofs.Same.{same_turned as same-comm}
 use Rattle.netlist.specs.Rules.{taken, distinct}
 use Rattle.netlist.specs.View.{word}
 use Rattle.pools.specs.Lying.{lies}
 use Rattle.checkmeta.proofs.Laws.{lies_is, part_is}
 use Rattle.checkcells.specs.Walk.{cell_placed, cell_good, cells_walk}
-use Rattle.checkcells.specs.declared.cells.Judged.{Judged}
-use Rattle.checkcells.specs.declared.cells.Judged.TheVariants as verdict
-use Rattle.checkcells.specs.declared.cells.Cells.{Cells}
-use Rattle.checkcells.specs.declared.cells.Cells.TheVariants as cells
 use Rattle.checkcells.proofs.Laws.{placed_is, good_placed}
 use Rattle.checking.specs.Names.{io_name, cell_name, io_names_in, cell_names_in, IosNamed, CellsNamed}
 use Rattle.checking.specs.Walk.{io_good, ios_walk}
-use Rattle.checking.specs.declared.ios.Upto.{Upto}
-use Rattle.checking.specs.declared.ios.Upto.TheVariants.{Wrong, At}
 
 -- ROWS of w words
 pub next_row : (w i : ℕ) (rows : List ℕ) → i * w + w ≡ (i + 1) * w → drop w (drop (i * w) rows) ≡ drop ((i + 1) * w) rows
@@ -116,11 +109,11 @@ module _ (rows : List ℕ) (i s n : ℕ) where
   unfolding ios_walk
   ios_on h e = let k : n - i ≡ suc (n - (i + 1)) = omega arith in rw k (sym (rw (e, ios_walk)))
 
-  pub ios_off : i < n → io_good s (drop (i * 3) rows) ≡ false → Wrong ≡ ios_walk rows i s (n - i)
+  pub ios_off : i < n → io_good s (drop (i * 3) rows) ≡ false → None ≡ ios_walk rows i s (n - i)
   unfolding ios_walk
   ios_off h e = let k : n - i ≡ suc (n - (i + 1)) = omega arith in rw k (sym (rw (e, ios_walk)))
 
-  pub ios_end : n ≤ i → pick (blank (drop (i * 3) rows)) (At s) Wrong ≡ ios_walk rows i s (n - i)
+  pub ios_end : n ≤ i → pick (blank (drop (i * 3) rows)) (Some s) None ≡ ios_walk rows i s (n - i)
   unfolding ios_walk
   ios_end h = let k : n - i ≡ 0 = omega arith in rw k
 
@@ -146,23 +139,23 @@ pub row_head : (k x : ℕ) (rows : List ℕ) → x ≡ get_or rows k 0 → x ≡
 row_head k x rows e = e ∙ sym (get_or-drop k rows 0 0 ∙ rw (add-zero k))
 
 -- WHERE A WALK COMES TO ITS END the names are there
-pub ios_there : (left : ℕ) (rows : List ℕ) (i s t : ℕ) → ios_walk rows i s left ≡ At t → (j : ℕ) → j < left → word (drop ((i + j) * 3) rows) 0 + word (drop ((i + j) * 3) rows) 1 ≤ 16384
+pub ios_there : (left : ℕ) (rows : List ℕ) (i s t : ℕ) → ios_walk rows i s left ≡ Some t → (j : ℕ) → j < left → word (drop ((i + j) * 3) rows) 0 + word (drop ((i + j) * 3) rows) 1 ≤ 16384
 unfolding ios_walk
 ios_there zero rows i s t w j h = absurd (omega arith)
 ios_there (suc left) rows i s t w zero h = rw (add-zero i) (bool_cases (io_good s (drop (i * 3) rows))
     (λ g. let p = io_placed s (drop (i * 3) rows) g in omega (arith, p.0, p.1))
-    (λ g. let d : Wrong ≡ At t = rw (g, ios_walk) at w in let z : ◌≡◌ {A = ℕ} 0 1 = cc (d) in absurd (omega arith)))
+    (λ g. let d : None ≡ Some t = rw (g, ios_walk) at w in let z : ◌≡◌ {A = ℕ} 0 1 = cc (d) in absurd (omega arith)))
 ios_there (suc left) rows i s t w (suc j) h = bool_cases (io_good s (drop (i * 3) rows))
     (λ g. let e : i + 1 + j ≡ i + suc j = omega arith in rw e at (ios_there left rows (i + 1) (s + word (drop (i * 3) rows) 1) t (rw (g, ios_walk) at w) j (omega arith)))
-    (λ g. let d : Wrong ≡ At t = rw (g, ios_walk) at w in let z : ◌≡◌ {A = ℕ} 0 1 = cc (d) in absurd (omega arith))
+    (λ g. let d : None ≡ Some t = rw (g, ios_walk) at w in let z : ◌≡◌ {A = ℕ} 0 1 = cc (d) in absurd (omega arith))
 
-pub ios_named : (S : List ℕ) (n : ℕ) (rows : List ℕ) (s t : ℕ) → length S ≡ 16384 → n * 3 ≤ length rows → ios_walk rows 0 s n ≡ At t → IosNamed S n rows
+pub ios_named : (S : List ℕ) (n : ℕ) (rows : List ℕ) (s t : ℕ) → length S ≡ 16384 → n * 3 ≤ length rows → ios_walk rows 0 s n ≡ Some t → IosNamed S n rows
 ios_named S n rows s t l h w = record {
   long = h;
   each = λ i k. let e : 0 + i ≡ i = zero-add i in rw l (rw e at (ios_there n rows 0 s t w i k));
 }
 
-pub cells_there : (left : ℕ) (ws bits runs : List ℕ) (metas : ℕ) (rows : List ℕ) (i s r b d o x y z v w : ℕ) → cells_walk ws bits runs metas rows i s r b d o left ≡ cells.Ends x y z v w
+pub cells_there : (left : ℕ) (ws bits runs : List ℕ) (metas : ℕ) (rows : List ℕ) (i s r b d o x y z v w : ℕ) → cells_walk ws bits runs metas rows i s r b d o left ≡ Some (x, y, z, v, w)
     → (j : ℕ) → j < left → word (drop ((i + j) * 9) rows) 2 + word (drop ((i + j) * 9) rows) 3 ≤ 16384
 unfolding cells_walk
 cells_there zero ws bits runs metas rows i s r b d o x y z v w k j h = absurd (omega arith)
@@ -170,16 +163,16 @@ cells_there (suc left) ws bits runs metas rows i s r b d o x y z v w k j h =
     turn (λ out e. cells_there left ws bits runs metas rows (i + 1) (s + word (drop (i * 9) rows) 3) (r + (word (drop (i * 9) rows) 6 + (word (drop (i * 9) rows) 7 + word (drop (i * 9) rows) 8))) e (d + word (drop (i * 9) rows) 1) (o + out) x y z v w)
     (cell_good ws bits runs metas s r b (drop (i * 9) rows)) refl j h
   where
-    turn : ((out e : ℕ) → cells_walk ws bits runs metas rows (i + 1) (s + word (drop (i * 9) rows) 3) (r + (word (drop (i * 9) rows) 6 + (word (drop (i * 9) rows) 7 + word (drop (i * 9) rows) 8))) e (d + word (drop (i * 9) rows) 1) (o + out) left ≡ cells.Ends x y z v w
+    turn : ((out e : ℕ) → cells_walk ws bits runs metas rows (i + 1) (s + word (drop (i * 9) rows) 3) (r + (word (drop (i * 9) rows) 6 + (word (drop (i * 9) rows) 7 + word (drop (i * 9) rows) 8))) e (d + word (drop (i * 9) rows) 1) (o + out) left ≡ Some (x, y, z, v, w)
         → (j : ℕ) → j < left → word (drop ((i + 1 + j) * 9) rows) 2 + word (drop ((i + 1 + j) * 9) rows) 3 ≤ 16384)
-        → (c : Judged) → cell_good ws bits runs metas s r b (drop (i * 9) rows) ≡ c → (j : ℕ) → j < suc left → word (drop ((i + j) * 9) rows) 2 + word (drop ((i + j) * 9) rows) 3 ≤ 16384
-    turn ih verdict.Wrong g j h = let f : cells.Wrong ≡ cells.Ends x y z v w = rw (g, cells_walk) at k in let u : ◌≡◌ {A = ℕ} 0 1 = cc (f) in absurd (omega arith)
-    turn ih (verdict.Good out e) g zero h =
+        → (c : Option (ℕ × ℕ)) → cell_good ws bits runs metas s r b (drop (i * 9) rows) ≡ c → (j : ℕ) → j < suc left → word (drop ((i + j) * 9) rows) 2 + word (drop ((i + j) * 9) rows) 3 ≤ 16384
+    turn ih None g j h = let f : None ≡ Some (x, y, z, v, w) = rw (g, cells_walk) at k in let u : ◌≡◌ {A = ℕ} 0 1 = cc (f) in absurd (omega arith)
+    turn ih (Some (out, e)) g zero h =
         let p = placed_is s r (drop (i * 9) rows) (and_true (cell_placed s r (drop (i * 9) rows)) _ (good_placed ws bits runs metas s r b (drop (i * 9) rows) out e g).1).0 in
         rw (add-zero i) (omega (arith, p.name, p.strings))
-    turn ih (verdict.Good out e) g (suc j) h = let q : i + 1 + j ≡ i + suc j = omega arith in rw q at (ih out e (rw (g, cells_walk) at k) j (omega arith))
+    turn ih (Some (out, e)) g (suc j) h = let q : i + 1 + j ≡ i + suc j = omega arith in rw q at (ih out e (rw (g, cells_walk) at k) j (omega arith))
 
-pub cells_named : (S : List ℕ) (n : ℕ) (rows : List ℕ) (ws bits runs : List ℕ) (metas s x y z v w : ℕ) → length S ≡ 16384 → n * 9 ≤ length rows → cells_walk ws bits runs metas rows 0 s 0 0 0 0 n ≡ cells.Ends x y z v w → CellsNamed S n rows
+pub cells_named : (S : List ℕ) (n : ℕ) (rows : List ℕ) (ws bits runs : List ℕ) (metas s x y z v w : ℕ) → length S ≡ 16384 → n * 9 ≤ length rows → cells_walk ws bits runs metas rows 0 s 0 0 0 0 n ≡ Some (x, y, z, v, w) → CellsNamed S n rows
 cells_named S n rows ws bits runs metas s x y z v w l h k = record {
   long = h;
   each = λ i q. let e : 0 + i ≡ i = zero-add i in rw l (rw e at (cells_there n ws bits runs metas rows 0 s 0 0 0 0 x y z v w k i q));

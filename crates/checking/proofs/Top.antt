@@ -1,4 +1,5 @@
 -- The check part by part decides whether tables are good.
+use Rattle.std.specs.Prelude.{Ok, Err, Option, Some, None}
 use mathlib.Core.Path.{◌≡◌, refl, sym, ap, ap₂, ◌∙◌, subst}
 use mathlib.Core.Bool.{true, false, ◌&&◌, ◌||◌}
 use mathlib.Core.List.{List, [], ◌∷◌, ◌++◌, append_assoc}
@@ -17,30 +18,22 @@ use Rattle.netlist.specs.Rules.{is_byte, is_number, distinct, io_names, names_as
 use Rattle.netlist.specs.Tables.{Tables, meta_rows, io_rows, cell_rows, run_rows, tables_in}
 use Rattle.netlist.specs.View.{metas_in, io_in, ios_in, cells_in, pool_in, view}
 use Rattle.netlist.specs.Good.{laid, good, short, check_of, io_from, lookup_of}
-use Rattle.netlist.specs.declared.Checked.TheVariants as checked
-use Rattle.netlist.specs.declared.Found.TheVariants as found
 use Rattle.ground.specs.Refusals.{at, refusal}
 use Rattle.ground.specs.Text.{same}
 use Rattle.netlist.proofs.Laying.{valid_roomy, valid_metas, valid_cells, Long}
 use Rattle.netlist.proofs.Lengths.{length_run_rows}
 use Rattle.checkmeta.specs.Fields.{kinds_in}
 use Rattle.checkmeta.specs.Walk.{metas_walk}
-use Rattle.checkmeta.specs.declared.rows.Metas.{Metas}
-use Rattle.checkmeta.specs.declared.rows.Metas.TheVariants as metas
 use Rattle.checkmeta.proofs.Fits.{none, same_test, every_take, every_part}
 use Rattle.pools.proofs.Laws.{every_below}
 use Rattle.checkmeta.proofs.Link as meta
 use Rattle.checkcells.specs.Runs.{widths_in}
 use Rattle.checkcells.specs.Walk.{cells_walk}
-use Rattle.checkcells.specs.declared.cells.Cells.{Cells}
-use Rattle.checkcells.specs.declared.cells.Cells.TheVariants as cells
 use Rattle.checkcells.proofs.CellLink as cellpool
 use Rattle.checkcells.proofs.Link as cell
 use Rattle.checking.specs.Names.{io_names_in, cell_names_in, IosNamed}
 use Rattle.checking.specs.Walk.{ios_walk}
 use Rattle.checking.specs.Parts.{metas_end, metas_part, ios_end, ios_part, cells_end, cells_part, and_then, blank_from, parts_good, metas_upto, ios_upto, cells_upto, regions, strings_alone}
-use Rattle.checking.specs.declared.ios.Upto.{Upto}
-use Rattle.checking.specs.declared.ios.Upto.TheVariants.{Wrong, At}
 use Rattle.checking.proofs.IoLink as io
 use Rattle.checking.proofs.Laws.{ios_named, next_row}
 
@@ -74,44 +67,44 @@ place_is xs t a b e h k =
     omega (arith, d, p, q, r)
 
 -- WHAT THE PARTS TELL
-absurd_at : {P : Type 0} {s : ℕ} → Wrong ≡ At s → P
+absurd_at : {P : Type 0} {s : ℕ} → None ≡ Some s → P
 absurd_at d = let n : ◌≡◌ {A = ℕ} 0 1 = cc (d) in absurd (omega arith)
 
 record MetasAt (rows members bits : List ℕ) (n s : ℕ) : Type 0 where
   most : n ≤ 512
   m : ℕ
   b : ℕ
-  walk : metas_walk members bits rows 0 0 0 0 n ≡ metas.Ends s m b
+  walk : metas_walk members bits rows 0 0 0 0 n ≡ Some (s, m, b)
   m_blank : blank (drop m members) ≡ true
   b_blank : blank (drop b bits) ≡ true
 
-metas_at : (rows members bits : List ℕ) (n s : ℕ) → metas_part rows members bits n ≡ At s → MetasAt rows members bits n s
+metas_at : (rows members bits : List ℕ) (n s : ℕ) → metas_part rows members bits n ≡ Some s → MetasAt rows members bits n s
 unfolding metas_part
 metas_at rows members bits n s h = bool_cases (leb n 512)
     (λ l. go (leb-true n 512 l) (metas_walk members bits rows 0 0 0 0 n) refl (rw l at h))
     (λ l. absurd_at (rw l at h))
   where
-    go : n ≤ 512 → (w : Metas) → metas_walk members bits rows 0 0 0 0 n ≡ w → metas_end members bits w ≡ At s → MetasAt rows members bits n s
-    go l metas.Wrong e k = absurd_at k
-    go l (metas.Ends x m b) e k = bool_cases (blank (drop m members) && blank (drop b bits))
-        (λ p. let d : At x ≡ At s = rw p at k in let f : x ≡ s = cc (d) in let q = and_true (blank (drop m members)) (blank (drop b bits)) p in
-        record { most = l; m = m; b = b; walk = e ∙ ap (λ (u : ℕ). metas.Ends u m b) f; m_blank = q.0; b_blank = q.1 })
+    go : n ≤ 512 → (w : Option (ℕ × ℕ × ℕ)) → metas_walk members bits rows 0 0 0 0 n ≡ w → metas_end members bits w ≡ Some s → MetasAt rows members bits n s
+    go l None e k = absurd_at k
+    go l (Some (x, m, b)) e k = bool_cases (blank (drop m members) && blank (drop b bits))
+        (λ p. let d : Some x ≡ Some s = rw p at k in let f : x ≡ s = cc (d) in let q = and_true (blank (drop m members)) (blank (drop b bits)) p in
+        record { most = l; m = m; b = b; walk = e ∙ ap (λ (u : ℕ). Some (u, m, b)) f; m_blank = q.0; b_blank = q.1 })
         (λ p. absurd_at (rw p at k))
 
 record IosAt (rows strings : List ℕ) (n s t : ℕ) : Type 0 where
   most : n ≤ 64
-  walk : ios_walk rows 0 s n ≡ At t
+  walk : ios_walk rows 0 s n ≡ Some t
   unique : distinct (io_names_in strings n rows) ≡ true
 
-ios_at : (rows strings : List ℕ) (n s t : ℕ) → ios_part rows strings n s ≡ At t → IosAt rows strings n s t
+ios_at : (rows strings : List ℕ) (n s t : ℕ) → ios_part rows strings n s ≡ Some t → IosAt rows strings n s t
 unfolding ios_part
 ios_at rows strings n s t h = bool_cases (leb n 64)
     (λ l. go (leb-true n 64 l) (ios_walk rows 0 s n) refl (rw l at h))
     (λ l. absurd_at (rw l at h))
   where
-    go : n ≤ 64 → (w : Upto) → ios_walk rows 0 s n ≡ w → ios_end (distinct (io_names_in strings n rows)) w ≡ At t → IosAt rows strings n s t
-    go l Wrong e k = absurd_at k
-    go l (At x) e k = bool_cases (distinct (io_names_in strings n rows))
+    go : n ≤ 64 → (w : Option ℕ) → ios_walk rows 0 s n ≡ w → ios_end (distinct (io_names_in strings n rows)) w ≡ Some t → IosAt rows strings n s t
+    go l None e k = absurd_at k
+    go l (Some x) e k = bool_cases (distinct (io_names_in strings n rows))
         (λ p. record { most = l; walk = e ∙ (rw p at k); unique = p })
         (λ p. absurd_at (rw p at k))
 
@@ -121,7 +114,7 @@ record CellsAt (rows runs bits strings : List ℕ) (n metas s x : ℕ) : Type 0 
   b : ℕ
   d : ℕ
   o : ℕ
-  walk : cells_walk (widths_in n rows) bits runs metas rows 0 s 0 0 0 0 n ≡ cells.Ends x r b d o
+  walk : cells_walk (widths_in n rows) bits runs metas rows 0 s 0 0 0 0 n ≡ Some (x, r, b, d, o)
   d_most : d ≤ 4096
   o_most : o ≤ 4096
   r_blank : blank (drop (r * 3) runs) ≡ true
@@ -129,17 +122,17 @@ record CellsAt (rows runs bits strings : List ℕ) (n metas s x : ℕ) : Type 0 
   inputs : distinct (cell_names_in strings 1 n rows) ≡ true
   outputs : distinct (cell_names_in strings 2 n rows) ≡ true
 
-cells_at : (rows runs bits strings : List ℕ) (n metas s x : ℕ) → cells_part rows runs bits strings n metas s ≡ At x → CellsAt rows runs bits strings n metas s x
+cells_at : (rows runs bits strings : List ℕ) (n metas s x : ℕ) → cells_part rows runs bits strings n metas s ≡ Some x → CellsAt rows runs bits strings n metas s x
 unfolding cells_part
 cells_at rows runs bits strings n metas s x h = bool_cases (leb n 512)
     (λ l. go (leb-true n 512 l) (cells_walk (widths_in n rows) bits runs metas rows 0 s 0 0 0 0 n) refl (rw l at h))
     (λ l. absurd_at (rw l at h))
   where
-    go : n ≤ 512 → (w : Cells) → cells_walk (widths_in n rows) bits runs metas rows 0 s 0 0 0 0 n ≡ w
-        → cells_end runs bits (distinct (cell_names_in strings 1 n rows) && distinct (cell_names_in strings 2 n rows)) w ≡ At x → CellsAt rows runs bits strings n metas s x
-    go l cells.Wrong e k = absurd_at k
-    go l (cells.Ends y r b d o) e k = bool_cases ((leb d 4096 && leb o 4096) && ((blank (drop (r * 3) runs) && blank (drop b bits)) && (distinct (cell_names_in strings 1 n rows) && distinct (cell_names_in strings 2 n rows))))
-        (λ p. let a : At y ≡ At x = rw p at k in let f : y ≡ x = cc (a) in
+    go : n ≤ 512 → (w : Option (ℕ × ℕ × ℕ × ℕ × ℕ)) → cells_walk (widths_in n rows) bits runs metas rows 0 s 0 0 0 0 n ≡ w
+        → cells_end runs bits (distinct (cell_names_in strings 1 n rows) && distinct (cell_names_in strings 2 n rows)) w ≡ Some x → CellsAt rows runs bits strings n metas s x
+    go l None e k = absurd_at k
+    go l (Some (y, r, b, d, o)) e k = bool_cases ((leb d 4096 && leb o 4096) && ((blank (drop (r * 3) runs) && blank (drop b bits)) && (distinct (cell_names_in strings 1 n rows) && distinct (cell_names_in strings 2 n rows))))
+        (λ p. let a : Some y ≡ Some x = rw p at k in let f : y ≡ x = cc (a) in
         let q = and_true (leb d 4096 && leb o 4096) _ p in
         let q₁ = and_true (leb d 4096) (leb o 4096) q.0 in
         let q₂ = and_true (blank (drop (r * 3) runs) && blank (drop b bits)) _ q.1 in
@@ -151,7 +144,7 @@ cells_at rows runs bits strings n metas s x h = bool_cases (leb n 512)
           b = b;
           d = d;
           o = o;
-          walk = e ∙ ap (λ (u : ℕ). cells.Ends u r b d o) f;
+          walk = e ∙ ap (λ (u : ℕ). Some (u, r, b, d, o)) f;
           d_most = leb-true d 4096 q₁.0;
           o_most = leb-true o 4096 q₁.1;
           r_blank = q₃.0;
@@ -276,18 +269,18 @@ pub parts_good_lem : (T : Tables) → Lent T → parts_good T ≡ true → good 
 unfolding parts_good
 parts_good_lem T l h = go (metas_part T.metas T.members T.attr_bits T.meta_count) refl
   where
-    go₃ : (s t : ℕ) → metas_part T.metas T.members T.attr_bits T.meta_count ≡ At s → ios_part T.ios T.strings T.io_count s ≡ At t
-        → (u : Upto) → cells_part T.cells T.runs T.run_bits T.strings T.cell_count T.meta_count t ≡ u → good T ≡ true
-    go₃ s t p q Wrong r = never_both (rw (p, q, r) at h) refl
-    go₃ s t p q (At x) r = is_good T l s t x (metas_at _ _ _ _ s p) (ios_at _ _ _ s t q) (cells_at _ _ _ _ _ _ t x r) (rw (p, q, r) at h)
+    go₃ : (s t : ℕ) → metas_part T.metas T.members T.attr_bits T.meta_count ≡ Some s → ios_part T.ios T.strings T.io_count s ≡ Some t
+        → (u : Option ℕ) → cells_part T.cells T.runs T.run_bits T.strings T.cell_count T.meta_count t ≡ u → good T ≡ true
+    go₃ s t p q None r = never_both (rw (p, q, r) at h) refl
+    go₃ s t p q (Some x) r = is_good T l s t x (metas_at _ _ _ _ s p) (ios_at _ _ _ s t q) (cells_at _ _ _ _ _ _ t x r) (rw (p, q, r) at h)
 
-    go₂ : (s : ℕ) → metas_part T.metas T.members T.attr_bits T.meta_count ≡ At s → (u : Upto) → ios_part T.ios T.strings T.io_count s ≡ u → good T ≡ true
-    go₂ s p Wrong q = never_both (rw (p, q) at h) refl
-    go₂ s p (At t) q = go₃ s t p q (cells_part T.cells T.runs T.run_bits T.strings T.cell_count T.meta_count t) refl
+    go₂ : (s : ℕ) → metas_part T.metas T.members T.attr_bits T.meta_count ≡ Some s → (u : Option ℕ) → ios_part T.ios T.strings T.io_count s ≡ u → good T ≡ true
+    go₂ s p None q = never_both (rw (p, q) at h) refl
+    go₂ s p (Some t) q = go₃ s t p q (cells_part T.cells T.runs T.run_bits T.strings T.cell_count T.meta_count t) refl
 
-    go : (u : Upto) → metas_part T.metas T.members T.attr_bits T.meta_count ≡ u → good T ≡ true
-    go Wrong p = never_both (rw p at h) refl
-    go (At s) p = go₂ s p (ios_part T.ios T.strings T.io_count s) refl
+    go : (u : Option ℕ) → metas_part T.metas T.members T.attr_bits T.meta_count ≡ u → good T ≡ true
+    go None p = never_both (rw p at h) refl
+    go (Some s) p = go₂ s p (ios_part T.ios T.strings T.io_count s) refl
 
 -- AND IN GOOD TABLES every part is right
 module _ (T : Tables) (l : Lent T) (g : good T ≡ true) where
@@ -396,7 +389,7 @@ module _ (T : Tables) (l : Lent T) (g : good T ≡ true) where
   behind : (xs t : List ℕ) → fits xs t ≡ true → blank (drop (0 + length xs) t) ≡ true
   behind xs t f = rw (zero-add (length xs)) (fits_split xs t f).1
 
-  metas_right : metas_part T.metas T.members T.attr_bits T.meta_count ≡ At from
+  metas_right : metas_part T.metas T.members T.attr_bits T.meta_count ≡ Some from
   unfolding metas_part
   metas_right =
       let r = all_laid in
@@ -404,19 +397,19 @@ module _ (T : Tables) (l : Lent T) (g : good T ≡ true) where
       let A = length (attr_bits_of gms) in
       let f : length (attr_bits_of gms) ≤ length T.attr_bits = fits_length (attr_bits_of gms) T.attr_bits r.attr_bits in
       let w = meta.walks T (meta_pools T l) T.meta_count 0 0 0 0 (omega (arith, v.metas_most, l.long.metas)) r.metas v.metas_sound_lem v.metas_short (omega (arith, v.strings)) (omega (arith, v.members)) (omega (arith, f, l.long.attr_bits)) in
-      rw (le-leb T.meta_count 512 v.metas_most, w, behind (members_of gms) T.members r.members, behind (attr_bits_of gms) T.attr_bits r.attr_bits) (ap At (zero-add from))
+      rw (le-leb T.meta_count 512 v.metas_most, w, behind (members_of gms) T.members r.members, behind (attr_bits_of gms) T.attr_bits r.attr_bits) (ap Some (zero-add from))
 
-  pub ios_right : ios_walk T.ios 0 from T.io_count ≡ At until
+  pub ios_right : ios_walk T.ios 0 from T.io_count ≡ Some until
   ios_right =
       let r = all_laid in
       let v = rules in
       io.walks T l.long.strings l.bytes T.io_count 0 from (omega (arith, v.ios_most, l.long.ios)) r.ios v.ios_sound v.ios_short (omega (arith, v.strings))
 
-  ios_part_right : ios_part T.ios T.strings T.io_count from ≡ At until
+  ios_part_right : ios_part T.ios T.strings T.io_count from ≡ Some until
   unfolding ios_part
   ios_part_right = let v = rules in rw (le-leb T.io_count 64 v.ios_most, ios_right, v.ios_unique)
 
-  cells_right : cells_part T.cells T.runs T.run_bits T.strings T.cell_count T.meta_count until ≡ At (until + length cell_names)
+  cells_right : cells_part T.cells T.runs T.run_bits T.strings T.cell_count T.meta_count until ≡ Some (until + length cell_names)
   unfolding cells_part
   cells_right =
       let r = all_laid in
@@ -462,7 +455,7 @@ module _ (T : Tables) (n i : ℕ) (rows name : List ℕ) (h : i < n) where
   unfolding ios_in
   ios_cons = let m : n - i ≡ suc (n - (i + 1)) = omega arith in rw (m, ← next_row 3 i rows (omega arith))
 
-  pub found_here : true ≡ same (part (get_or (drop (i * 3) rows) 0 0) (get_or (drop (i * 3) rows) 1 0) T.strings) name → found.Row i (get_or (drop (i * 3) rows) 2 0) ≡ io_from (ios_in T (n - i) (drop (i * 3) rows)) i name
+  pub found_here : true ≡ same (part (get_or (drop (i * 3) rows) 0 0) (get_or (drop (i * 3) rows) 1 0) T.strings) name → Ok (i, get_or (drop (i * 3) rows) 2 0) ≡ io_from (ios_in T (n - i) (drop (i * 3) rows)) i name
   unfolding io_from
   found_here e = sym (rw (ios_cons, ← e, io_from))
 
@@ -470,7 +463,7 @@ module _ (T : Tables) (n i : ℕ) (rows name : List ℕ) (h : i < n) where
   unfolding io_from
   found_later e = sym (rw (ios_cons, ← e, io_from))
 
-pub found_none : (T : Tables) (n i : ℕ) (rows name : List ℕ) → n ≤ i → found.Refused (refusal 18 (at 0)) ≡ io_from (ios_in T (n - i) rows) i name
+pub found_none : (T : Tables) (n i : ℕ) (rows name : List ℕ) → n ≤ i → Err (refusal 18 (at 0)) ≡ io_from (ios_in T (n - i) rows) i name
 unfolding io_from ios_in
 found_none T n i rows name h = let m : n - i ≡ 0 = omega arith in rw m
 
@@ -505,7 +498,7 @@ long_enough : (n m : ℕ) → ltb n m ≡ false → m ≤ n
 long_enough n m h = ltb-false n m h
 
 -- what the check's good answer tells
-pub checked_good : (rows strings bits : List ℕ) → check_of rows strings bits ≡ checked.Good → Enough rows strings bits × (good (tables_in rows strings bits) ≡ true)
+pub checked_good : (rows strings bits : List ℕ) → check_of rows strings bits ≡ Ok tt → Enough rows strings bits × (good (tables_in rows strings bits) ≡ true)
 unfolding check_of short
 checked_good rows strings bits h = bool_cases (ltb (length rows) 26307 || (ltb (length strings) 16384 || ltb (length bits) 393728))
     (λ e. let z : ◌≡◌ {A = ℕ} 0 1 = cc (rw e at h) in absurd (omega arith))
@@ -519,15 +512,15 @@ checked_good rows strings bits h = bool_cases (ltb (length rows) 26307 || (ltb (
 abbrev pub cuts : List ℕ → List ℕ → List ℕ → ℕ → ℕ → ℕ → Tables
 cuts rows strings bits m i c = regions m i c (take 8192 (drop 3 rows)) (take 1024 (drop 8195 rows)) (take 192 (drop 9219 rows)) (take 4608 (drop 9411 rows)) (take 12288 (drop 14019 rows)) (take 16384 (drop 0 strings)) (take 131072 (drop 0 bits)) (take 262656 (drop 131072 bits))
 
-pub metas_cut : (rows bits metas members attrs : List ℕ) (n : ℕ) (r : Upto) → metas ≡ part 3 8192 rows → members ≡ part 8195 1024 rows → attrs ≡ part 0 131072 bits → n ≡ get_or rows 0 0 → r ≡ metas_part metas members attrs n → r ≡ metas_upto rows bits
+pub metas_cut : (rows bits metas members attrs : List ℕ) (n : ℕ) (r : Option ℕ) → metas ≡ part 3 8192 rows → members ≡ part 8195 1024 rows → attrs ≡ part 0 131072 bits → n ≡ get_or rows 0 0 → r ≡ metas_part metas members attrs n → r ≡ metas_upto rows bits
 unfolding metas_upto
 metas_cut rows bits metas members attrs n r e f g h p = p ∙ rw (e, f, g, h)
 
-pub ios_cut : (rows strings ios : List ℕ) (n s : ℕ) (r : Upto) → ios ≡ part 9219 192 rows → n ≡ get_or rows 1 0 → r ≡ ios_part ios strings n s → r ≡ ios_upto rows strings s
+pub ios_cut : (rows strings ios : List ℕ) (n s : ℕ) (r : Option ℕ) → ios ≡ part 9219 192 rows → n ≡ get_or rows 1 0 → r ≡ ios_part ios strings n s → r ≡ ios_upto rows strings s
 unfolding ios_upto
 ios_cut rows strings ios n s r e h p = p ∙ rw (e, h)
 
-pub cells_cut : (rows strings bits cells runs trits : List ℕ) (n m s : ℕ) (r : Upto) → cells ≡ part 9411 4608 rows → runs ≡ part 14019 12288 rows → trits ≡ part 131072 262656 bits → n ≡ get_or rows 2 0 → m ≡ get_or rows 0 0
+pub cells_cut : (rows strings bits cells runs trits : List ℕ) (n m s : ℕ) (r : Option ℕ) → cells ≡ part 9411 4608 rows → runs ≡ part 14019 12288 rows → trits ≡ part 131072 262656 bits → n ≡ get_or rows 2 0 → m ≡ get_or rows 0 0
     → r ≡ cells_part cells runs trits strings n m s → r ≡ cells_upto rows strings bits s
 unfolding cells_upto
 cells_cut rows strings bits cells runs trits n m s r e f g h k p = p ∙ rw (e, f, g, h, k)
@@ -541,20 +534,20 @@ module _ (rows strings bits text : List ℕ) (h : (26307 ≤ length rows) × (16
       (decides (tables_in rows strings bits)
       (lent_in rows strings bits (record { rows_long = h.0; strings_long = h.1; bits_long = h.2 }) (every_below 256 strings b) (every_below 4294967296 rows w)))
 
-  pub metas_wrong : metas_upto rows bits ≡ Wrong → false ≡ good (tables_in rows strings bits)
+  pub metas_wrong : metas_upto rows bits ≡ None → false ≡ good (tables_in rows strings bits)
   metas_wrong p = (rw p at decided)
 
-  pub ios_wrong : (s : ℕ) → metas_upto rows bits ≡ At s → ios_upto rows text s ≡ Wrong → false ≡ good (tables_in rows strings bits)
+  pub ios_wrong : (s : ℕ) → metas_upto rows bits ≡ Some s → ios_upto rows text s ≡ None → false ≡ good (tables_in rows strings bits)
   ios_wrong s p q = (rw (p, q) at decided)
 
-  pub cells_wrong : (s t : ℕ) → metas_upto rows bits ≡ At s → ios_upto rows text s ≡ At t → cells_upto rows text bits t ≡ Wrong → false ≡ good (tables_in rows strings bits)
+  pub cells_wrong : (s t : ℕ) → metas_upto rows bits ≡ Some s → ios_upto rows text s ≡ Some t → cells_upto rows text bits t ≡ None → false ≡ good (tables_in rows strings bits)
   cells_wrong s t p q r = (rw (p, q, r) at decided)
 
-  pub to_the_end : (s t x : ℕ) → metas_upto rows bits ≡ At s → ios_upto rows text s ≡ At t → cells_upto rows text bits t ≡ At x → blank (drop x text) ≡ good (tables_in rows strings bits)
+  pub to_the_end : (s t x : ℕ) → metas_upto rows bits ≡ Some s → ios_upto rows text s ≡ Some t → cells_upto rows text bits t ≡ Some x → blank (drop x text) ≡ good (tables_in rows strings bits)
   to_the_end s t x p q r = (rw (p, q, r) at decided)
 
 -- THE LOOKUP in tables that the check calls good
-module _ (rows strings bits : List ℕ) (h : check_of rows strings bits ≡ checked.Good) (b : (i : ℕ) → get_or strings i 0 < 256) (w : (i : ℕ) → get_or rows i 0 < 4294967296)
+module _ (rows strings bits : List ℕ) (h : check_of rows strings bits ≡ Ok tt) (b : (i : ℕ) → get_or strings i 0 < 256) (w : (i : ℕ) → get_or rows i 0 < 4294967296)
     (ios text : List ℕ) (n : ℕ) (e : ios ≡ part 9219 192 rows) (f : text ≡ part 0 16384 strings) (q : n ≡ get_or rows 1 0) where
   pub found_named : IosNamed text n ios
   unfolding tables_in part

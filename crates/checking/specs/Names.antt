@@ -1,5 +1,5 @@
 -- The names in the rows, for rule 9.
-use Rattle.std.specs.Prelude.{Bool, true, false, List, [], ◌∷◌, ℕ, zero, suc, ◌+◌, ◌*◌, ◌<◌, ◌≤◌, eqb, length, drop}
+use Rattle.std.specs.Prelude.{true, false, List, [], ◌∷◌, ℕ, zero, suc, ◌+◌, ◌*◌, ◌<◌, ◌≤◌, eqb, length, drop}
 use Rattle.ground.specs.Regions.{part}
 use Rattle.netlist.specs.View.{word}
 

@@ -5,13 +5,6 @@ ghost use Rattle.checking.specs.Walk.{name_wide, io_good, ios_walk, upto_of};
 use kinds::wide;
 use pools::{blank_words, both, lies_at, word_of};
 
-// Where the strings end behind rows that are good.
-#[derive(Clone, Copy)]
-pub enum Upto {
-    Wrong,
-    At(usize),
-}
-
 fn name_wide(size: usize) -> bool
     ensures { result ≡ name_wide size }
 {
@@ -34,23 +27,20 @@ fn io_good(row: &[u32], s: usize) -> bool
 }
 
 // The walk over n rows, where their names begin at s: whether they are good and nothing stands behind them.
-pub(crate) fn ios_good(ios: &[u32], n: usize, names: usize) -> Upto
+pub(crate) fn ios_good(ios: &[u32], n: usize, names: usize) -> Option<usize>
     requires { (n * 3 ≤ length ios.now) × (names ≤ 16384) }
     ensures { (result ≡ ios_walk ios.now 0 names n) × (upto_of result ≤ 16384) }
 {
-    let mut i = 0;
     let mut s = names;
-    while i < n {
+    for i in 0..n {
         let at = i * 3;
-        if io_good(&ios[at..], s) {
-            s += word_of(ios, at + 1);
-            i += 1;
-        } else {
-            return Upto::Wrong;
+        if !io_good(&ios[at..], s) {
+            return None;
         }
+        s += word_of(ios, at + 1);
     }
-    if blank_words(ios, i * 3) {
-        return Upto::At(s);
+    if blank_words(ios, n * 3) {
+        return Some(s);
     }
-    Upto::Wrong
+    None
 }

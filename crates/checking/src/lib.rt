@@ -7,27 +7,26 @@ pub mod ios;
 pub mod names;
 pub mod parts;
 
-ghost use Rattle.std.specs.Prelude.{◌≡◌, ◌≤◌, length};
+ghost use Rattle.std.specs.Prelude.{◌≡◌, false, ◌*◌, ◌≤◌, length};
 ghost use Rattle.ground.specs.Refusals.{at, refusal};
-ghost use Rattle.netlist.specs.Good.{good, check_of, lookup_of, io_from};
+ghost use Rattle.netlist.specs.Good.{good, short, check_of, lookup_of, io_from};
 ghost use Rattle.netlist.specs.Tables.{tables_in};
 ghost use Rattle.netlist.specs.View.{ios_in};
 ghost use Rattle.checking.specs.Names.{IosNamed};
 ghost use Rattle.checking.specs.Parts.{metas_upto, ios_upto, cells_upto, strings_alone};
 ghost use Rattle.checking.specs.Walk.{upto_of};
 
-use crate::ios::Upto;
 use crate::names::io_named;
 use crate::parts::{cells_part, ios_part, metas_part};
 use blanks::no_bytes;
 use ground::{Place, Refusal};
-use netlist::{Checked, Found};
 use pools::word_of;
 use regions::{
     attr_trits_of, cells_of, ios_of, members_of, metas_of, run_trits_of, runs_of, strings_of,
 };
 
-fn refused(number: u8) -> Refusal
+// The refusal of lent slices as a whole, which has no place.
+pub fn refused(number: u8) -> Refusal
     ensures { result ≡ refusal number (at 0) }
 {
     let place = Place { at: 0 };
@@ -35,7 +34,7 @@ fn refused(number: u8) -> Refusal
 }
 
 // The metadata of the tables. Each part cuts out its own regions, so that few are in hand at once.
-fn metas_region(rows: &[u32], bits: &[u8]) -> Upto
+fn metas_region(rows: &[u32], bits: &[u8]) -> Option<usize>
     requires { (26307 ≤ length rows.now) × (393728 ≤ length bits.now) }
     ensures { (result ≡ metas_upto rows.now bits.now) × (upto_of result ≤ 16384) }
 {
@@ -48,7 +47,7 @@ fn metas_region(rows: &[u32], bits: &[u8]) -> Upto
 }
 
 // The I/O rows, whose names begin at s.
-fn ios_region(rows: &[u32], strings: &[u8], s: usize) -> Upto
+fn ios_region(rows: &[u32], strings: &[u8], s: usize) -> Option<usize>
     requires { (26307 ≤ length rows.now) × (length strings.now ≡ 16384) × (s ≤ 16384) }
     ensures { (result ≡ ios_upto rows.now strings.now s) × (upto_of result ≤ 16384) }
 {
@@ -56,7 +55,7 @@ fn ios_region(rows: &[u32], strings: &[u8], s: usize) -> Upto
 }
 
 // The cells, whose names begin at s.
-fn cells_region(rows: &[u32], strings: &[u8], bits: &[u8], s: usize) -> Upto
+fn cells_region(rows: &[u32], strings: &[u8], bits: &[u8], s: usize) -> Option<usize>
     requires { (26307 ≤ length rows.now) × (length strings.now ≡ 16384) × (393728 ≤ length bits.now) × (s ≤ 16384) }
     ensures { result ≡ cells_upto rows.now strings.now bits.now s }
 {
@@ -77,58 +76,67 @@ fn tables_good(rows: &[u32], strings: &[u8], bits: &[u8]) -> bool
     ensures { result ≡ good (tables_in rows.now strings.now bits.now) }
 {
     let text = strings_of(strings);
-    match metas_region(rows, bits) {
-        Upto::Wrong => false,
-        Upto::At(s) => match ios_region(rows, text, s) {
-            Upto::Wrong => false,
-            Upto::At(t) => match cells_region(rows, text, bits, t) {
-                Upto::Wrong => false,
-                Upto::At(x) => no_bytes(text, x),
-            },
-        },
+    let Some(s) = metas_region(rows, bits) else {
+        return false;
+    };
+    let Some(t) = ios_region(rows, text, s) else {
+        return false;
+    };
+    let Some(x) = cells_region(rows, text, bits, t) else {
+        return false;
+    };
+    no_bytes(text, x)
+}
+
+// Whether one of lent tables is shorter than tables are.
+pub fn is_short(rows: &[u32], strings: &[u8], bits: &[u8]) -> bool
+    ensures is { result ≡ short rows.now strings.now bits.now }
+    ensures long { result ≡ false → (26307 ≤ length rows.now) × (16384 ≤ length strings.now) × (393728 ≤ length bits.now) }
+{
+    if rows.len() < 26307 {
+        return true;
     }
+    if strings.len() < 16384 {
+        return true;
+    }
+    bits.len() < 393728
 }
 
 // The check of lent tables: 1 where one is short, 15 where they aren't good.
-pub fn check_tables(rows: &[u32], strings: &[u8], bits: &[u8]) -> Checked
+pub fn check_tables(rows: &[u32], strings: &[u8], bits: &[u8]) -> Result<(), Refusal>
     ensures { result ≡ check_of rows.now strings.now bits.now }
 {
-    if rows.len() < 26307 {
-        return Checked::Refused(refused(1));
-    }
-    if strings.len() < 16384 {
-        return Checked::Refused(refused(1));
-    }
-    if bits.len() < 393728 {
-        return Checked::Refused(refused(1));
+    if is_short(rows, strings, bits) {
+        return Err(refused(1));
     }
     if tables_good(rows, strings, bits) {
-        return Checked::Good;
+        return Ok(());
     }
-    Checked::Refused(refused(15))
+    Err(refused(15))
 }
 
 // The first of n I/O rows that has the name.
-fn find_io(ios: &[u32], strings: &[u8], n: usize, name: &[u8]) -> Found
+fn find_io(ios: &[u32], strings: &[u8], n: usize, name: &[u8]) -> Result<(usize, u32), Refusal>
     requires { IosNamed strings.now n ios.now }
     ensures { result ≡ io_from (ios_in (strings_alone strings.now) n ios.now) 0 name.now }
 {
-    let mut i = 0;
-    while i < n {
+    for i in 0..n {
         if io_named(ios, strings, i, name) {
-            return Found::Row(i, ios[i * 3 + 2]);
+            return Ok((i, ios[i * 3 + 2]));
         }
-        i += 1;
     }
-    Found::Refused(refused(18))
+    Err(refused(18))
 }
 
 // The lookup of an I/O row by its name in lent tables, which are checked first: 1, 15, then 18 where no row has the name.
-pub fn lookup_io(rows: &[u32], strings: &[u8], bits: &[u8], name: &[u8]) -> Found
+pub fn lookup_io(
+    rows: &[u32],
+    strings: &[u8],
+    bits: &[u8],
+    name: &[u8],
+) -> Result<(usize, u32), Refusal>
     ensures { result ≡ lookup_of rows.now strings.now bits.now name.now }
 {
-    match check_tables(rows, strings, bits) {
-        Checked::Refused(g) => Found::Refused(g),
-        Checked::Good => { find_io(ios_of(rows), strings_of(strings), word_of(rows, 1), name) }
-    }
+    check_tables(rows, strings, bits)?;
+    find_io(ios_of(rows), strings_of(strings), word_of(rows, 1), name)
 }

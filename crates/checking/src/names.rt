@@ -28,12 +28,10 @@ fn io_taken(ios: &[u32], strings: &[u8], from: usize, n: usize, name: &[u8]) -> 
     requires { (from ≤ n) × IosNamed strings.now n ios.now }
     ensures { result ≡ taken name.now (io_names_in strings.now (n - from) (drop (from * 3) ios.now)) }
 {
-    let mut i = from;
-    while i < n {
+    for i in from..n {
         if io_named(ios, strings, i, name) {
             return true;
         }
-        i += 1;
     }
     false
 }
@@ -56,9 +54,7 @@ fn ios_marked(ios: &[u32], strings: &[u8], n: usize, seen: &mut [u8]) -> bool
     requires { IosNamed strings.now n ios.now × (length seen.old ≡ 65536) }
     ensures { result ≡ distinct (io_names_in strings.now n ios.now) }
 {
-    let mut i = n;
-    while 0 < i {
-        i -= 1;
+    for i in (0..n).rev() {
         if io_again(ios, strings, i, n, seen) {
             return false;
         }
@@ -94,12 +90,10 @@ fn cell_taken(cells: &[u32], strings: &[u8], from: usize, n: usize, kind: u32, n
     requires { (from ≤ n) × CellsNamed strings.now n cells.now }
     ensures { result ≡ taken name.now (cell_names_in strings.now kind (n - from) (drop (from * 9) cells.now)) }
 {
-    let mut i = from;
-    while i < n {
+    for i in from..n {
         if cell_named(cells, strings, i, kind, name) {
             return true;
         }
-        i += 1;
     }
     false
 }
@@ -132,9 +126,7 @@ pub(crate) fn cells_distinct(
     requires { CellsNamed strings.now n cells.now × (length seen.old ≡ 65536) }
     ensures { result ≡ distinct (cell_names_in strings.now kind n cells.now) }
 {
-    let mut i = n;
-    while 0 < i {
-        i -= 1;
+    for i in (0..n).rev() {
         if cell_again(cells, strings, i, n, kind, seen) {
             return false;
         }

@@ -6,47 +6,39 @@ ghost use Rattle.checking.specs.Names.{cell_names_in, CellsNamed};
 ghost use Rattle.checking.specs.Walk.{upto_of};
 ghost use Rattle.checking.specs.Parts.{metas_part, ios_part, cells_part};
 
-use crate::ios::{Upto, ios_good};
+use crate::ios::ios_good;
 use crate::names::{cells_distinct, ios_distinct};
 use blanks::{no_bytes, no_words};
-use checkcells::cells::{Cells, cells_good};
-use checkmeta::rows::{Metas, metas_good};
+use checkcells::cells::cells_good;
+use checkmeta::rows::metas_good;
 use pools::both;
 
-pub(crate) fn metas_part(metas: &[u32], members: &[u32], bits: &[u8], n: usize) -> Upto
+pub(crate) fn metas_part(metas: &[u32], members: &[u32], bits: &[u8], n: usize) -> Option<usize>
     requires { (length metas.now ≡ 8192) × (length members.now ≡ 1024) × (length bits.now ≡ 131072) }
     ensures { (result ≡ metas_part metas.now members.now bits.now n) × (upto_of result ≤ 16384) }
 {
     if 512 < n {
-        return Upto::Wrong;
+        return None;
     }
-    match metas_good(metas, n, members, bits) {
-        Metas::Wrong => Upto::Wrong,
-        Metas::Ends(s, m, b) => {
-            if both(no_words(members, m), no_bytes(bits, b)) {
-                return Upto::At(s);
-            }
-            Upto::Wrong
-        }
+    let (s, m, b) = metas_good(metas, n, members, bits)?;
+    if both(no_words(members, m), no_bytes(bits, b)) {
+        return Some(s);
     }
+    None
 }
 
-pub(crate) fn ios_part(ios: &[u32], strings: &[u8], n: usize, s: usize) -> Upto
+pub(crate) fn ios_part(ios: &[u32], strings: &[u8], n: usize, s: usize) -> Option<usize>
     requires { (length ios.now ≡ 192) × (length strings.now ≡ 16384) × (s ≤ 16384) }
     ensures { (result ≡ ios_part ios.now strings.now n s) × (upto_of result ≤ 16384) }
 {
     if 64 < n {
-        return Upto::Wrong;
+        return None;
     }
-    match ios_good(ios, n, s) {
-        Upto::Wrong => Upto::Wrong,
-        Upto::At(t) => {
-            if ios_distinct(ios, strings, n) {
-                return Upto::At(t);
-            }
-            Upto::Wrong
-        }
+    let t = ios_good(ios, n, s)?;
+    if ios_distinct(ios, strings, n) {
+        return Some(t);
     }
+    None
 }
 
 // Whether nothing stands behind r runs and b trits.
@@ -77,26 +69,22 @@ pub(crate) fn cells_part(
     n: usize,
     metas: usize,
     s: usize,
-) -> Upto
+) -> Option<usize>
     requires { (length cells.now ≡ 4608) × (length runs.now ≡ 12288) × (length bits.now ≡ 262656) × (length strings.now ≡ 16384) × (s ≤ 16384) }
     ensures { result ≡ cells_part cells.now runs.now bits.now strings.now n metas s }
 {
     if 512 < n {
-        return Upto::Wrong;
+        return None;
     }
-    match cells_good(cells, n, metas, runs, bits, s) {
-        Cells::Wrong => Upto::Wrong,
-        Cells::Ends(x, r, b, d, o) => {
-            if both(
-                both(d <= 4096, o <= 4096),
-                both(
-                    blank_behind(runs, bits, r, b),
-                    names_distinct(cells, strings, n),
-                ),
-            ) {
-                return Upto::At(x);
-            }
-            Upto::Wrong
-        }
+    let (x, r, b, d, o) = cells_good(cells, n, metas, runs, bits, s)?;
+    if both(
+        both(d <= 4096, o <= 4096),
+        both(
+            blank_behind(runs, bits, r, b),
+            names_distinct(cells, strings, n),
+        ),
+    ) {
+        return Some(x);
     }
+    None
 }

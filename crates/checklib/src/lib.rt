@@ -8,7 +8,6 @@ ghost use Rattle.checklib.specs.Told.{told_check, pad_of, told_pad};
 
 use checking::{check_tables, lookup_io};
 use ground::Refusal;
-use netlist::{Checked, Found};
 use textlib::{Told, accepted, told_by};
 
 // The I/O row of an asked name and its width, or why there is none.
@@ -21,12 +20,12 @@ pub struct Pad {
     pub place: u64,
 }
 
-fn tell_check(r: Checked) -> Told
+fn tell_check(r: Result<(), Refusal>) -> Told
     ensures { result ≡ told_check r }
 {
     match r {
-        Checked::Good => accepted(),
-        Checked::Refused(g) => told_by(g),
+        Ok(()) => accepted(),
+        Err(g) => told_by(g),
     }
 }
 
@@ -59,12 +58,12 @@ fn no_pad(g: Refusal) -> Pad
     }
 }
 
-fn tell_pad(r: Found) -> Pad
+fn tell_pad(r: Result<(usize, u32), Refusal>) -> Pad
     ensures { result ≡ told_pad r }
 {
     match r {
-        Found::Row(row, width) => pad_at(row, width),
-        Found::Refused(g) => no_pad(g),
+        Ok((row, width)) => pad_at(row, width),
+        Err(g) => no_pad(g),
     }
 }
 

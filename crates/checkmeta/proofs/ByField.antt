@@ -1,19 +1,18 @@
 -- The rules by fields are the rules of the netlist.
-use mathlib.Core.Path.{◌≡◌, refl, sym, ap, ◌∙◌}
+use mathlib.Core.Path.{◌≡◌, refl}
 use mathlib.Core.Bool.{Bool, true, false, not, ◌&&◌, ◌||◌}
-use mathlib.Core.List.{List, [], ◌∷◌, ◌++◌}
-use Prim.Native.Nat.{ℕ, zero, suc, ◌+◌, ◌<◌, ◌≤◌}
+use mathlib.Core.List.{List}
+use Prim.Native.Nat.{ℕ}
 use native.Mathlib.Omega.{arith}
-use native.Mathlib.Decide.{ℕ_discrete}
-use lib.Dec.{eqb, leb, ltb}
+use lib.Dec.{eqb, leb}
 use lib.ListN.{length}
-use borrow.Author.Tests.{eqb-true, eqb-false, leb-true, le-leb, eq-eqb, ne_eqb}
+use borrow.Author.Tests.{eqb-true, leb-true, le-leb, ne_eqb}
 use Rattle.ground.specs.Choice.{pick}
-use Rattle.ground.specs.Lists.{every, all_of}
-use Rattle.ground.proofs.Bools.{bool_cases, never_both, and_true, true_and, fact, facts, not_of_false, some_back}
+use Rattle.ground.specs.Lists.{every}
+use Rattle.ground.proofs.Bools.{never_both, and_true, true_and, fact, facts, some_back}
 use Rattle.kinds.specs.Kinds.{wide}
-use Rattle.netlist.specs.Netlist.{Meta, set_meta, source_meta, indexed_meta, ident_meta, bits_meta, integer_meta, string_meta, is_scope}
-use Rattle.netlist.specs.Rules.{has_name, bad_range, refers, may_refer, is_member, is_source, is_byte, is_trit, is_number, shape, ranges, references, complete, attr_width, meta_sound, short_string}
+use Rattle.netlist.specs.Netlist.{Meta, set_meta, source_meta, ident_meta, bits_meta, string_meta, is_scope}
+use Rattle.netlist.specs.Rules.{has_name, bad_range, refers, is_member, is_source, is_byte, is_trit, is_number, shape, ranges, references, complete, attr_width, meta_sound, short_string}
 use Rattle.checkmeta.specs.Fields.{kind_sound, name_sound, text_sound, members_sound, bits_sound, inside_sound, source_sound, number_sound, range_sound, zero_range}
 use Rattle.checkmeta.proofs.Fits.{none}
 

@@ -1,19 +1,18 @@
 -- Rows against a region, word by word; parts of pools whose every element passes a test; facts gathered.
 use mathlib.Core.Path.{◌≡◌, refl, sym, ap, ◌∙◌}
-use mathlib.Core.Bool.{Bool, true, false, not, ◌&&◌, ◌||◌}
+use mathlib.Core.Bool.{Bool, true, false}
 use mathlib.Core.List.{List, [], ◌∷◌, ◌++◌}
-use Prim.Native.Nat.{ℕ, zero, suc, ◌+◌, ◌-◌, ◌*◌, ◌<◌, ◌≤◌}
+use Prim.Native.Nat.{ℕ, zero, suc, ◌+◌, ◌<◌}
 use native.Mathlib.Omega.{arith}
 use native.Mathlib.Decide.{dec_lt}
-use native.Mathlib.Nat.{add-zero}
-use lib.Dec.{eqb, leb, ltb}
+use lib.Dec.{eqb}
 use lib.ListN.{length, drop, take, get_or, take-append-drop}
-use borrow.Author.Tests.{eqb-true, eq-eqb, ne_eqb, lt-ltb}
+use borrow.Author.Tests.{eqb-true}
 use Rattle.ground.specs.Lists.{every, all_of}
-use Rattle.ground.specs.Regions.{blank, fits, part}
-use Rattle.ground.proofs.Bools.{bool_cases, never_both, facts, every_first, every_more}
-use Rattle.ground.proofs.Rest.{rest_cons, rest_end, rest_rest, past_zero}
-use Rattle.ground.proofs.Regions.{fits_on, fits_stop}
+use Rattle.ground.specs.Regions.{fits, part}
+use Rattle.ground.proofs.Bools.{bool_cases, never_both, every_first, every_more}
+use Rattle.ground.proofs.Rest.{rest_cons, rest_end, rest_rest}
+use Rattle.ground.proofs.Regions.{fits_on}
 
 -- A ROW'S WORDS, one after the other
 pub fits_word : (t : List ℕ) (k x : ℕ) (xs : List ℕ) → k < length t → x ≡ get_or t k 0 → fits (x ∷ xs) (drop k t) ≡ fits xs (drop (k + 1) t)

@@ -1,25 +1,23 @@
 -- How the loops of the check go on and end.
+use Rattle.std.specs.Prelude.{Some, None}
 use mathlib.Core.Path.{◌≡◌, refl, sym, ap, ◌∙◌}
 use mathlib.Core.Bool.{Bool, true, false, ◌&&◌}
 use mathlib.Core.List.{List, [], ◌∷◌, ◌++◌}
 use Prim.Native.Nat.{ℕ, zero, suc, ◌+◌, ◌-◌, ◌*◌, ◌<◌, ◌≤◌}
 use native.Mathlib.Omega.{arith}
-use native.Mathlib.Numerals.{add-one, sub-one}
 use lib.Dec.{eqb, leb}
 use lib.ListN.{length, drop, take, get_or, length-drop}
 use lib.Seq.{get_or-drop, take_all}
 use borrow.Author.Tests.{le-leb, lt-leb, eqb-true, leb-true}
 use Rattle.ground.specs.Choice.{pick}
 use Rattle.ground.specs.Regions.{blank, part}
-use Rattle.ground.proofs.Bools.{bool_cases, and_true}
+use Rattle.ground.proofs.Bools.{and_true}
 use Rattle.ground.proofs.Rest.{rest_rest}
 use Rattle.netlist.specs.Rules.{refers}
 use Rattle.netlist.specs.View.{word}
 use Rattle.checkmeta.specs.Fields.{kinds_in}
 use Rattle.checkmeta.specs.Walk.{placed, meta_good, metas_walk}
 use Rattle.pools.specs.Lying.{lies}
-use Rattle.checkmeta.specs.declared.rows.Metas.{Metas}
-use Rattle.checkmeta.specs.declared.rows.Metas.TheVariants.{Wrong, Ends}
 
 -- THE KINDS of the first rows
 pub kinds_length : (n : ℕ) (rows : List ℕ) → length (kinds_in n rows) ≡ n
@@ -91,11 +89,11 @@ module _ (members bits rows : List ℕ) (i s m b n : ℕ) (h : i < n) where
   unfolding metas_walk
   walk_on e = let k : n - i ≡ suc (n - (i + 1)) = omega arith in rw k (sym (rw (e, metas_walk)))
 
-  pub walk_off : meta_good members bits (kinds_in i rows) s m b (drop (i * 16) rows) ≡ false → Wrong ≡ metas_walk members bits rows i s m b (n - i)
+  pub walk_off : meta_good members bits (kinds_in i rows) s m b (drop (i * 16) rows) ≡ false → None ≡ metas_walk members bits rows i s m b (n - i)
   unfolding metas_walk
   walk_off e = let k : n - i ≡ suc (n - (i + 1)) = omega arith in rw k (sym (rw (e, metas_walk)))
 
-pub walk_end : (members bits rows : List ℕ) (i s m b n : ℕ) → n ≤ i → pick (blank (drop (i * 16) rows)) (Ends s m b) Wrong ≡ metas_walk members bits rows i s m b (n - i)
+pub walk_end : (members bits rows : List ℕ) (i s m b n : ℕ) → n ≤ i → pick (blank (drop (i * 16) rows)) (Some (s, m, b)) None ≡ metas_walk members bits rows i s m b (n - i)
 unfolding metas_walk
 walk_end members bits rows i s m b n h = let k : n - i ≡ 0 = omega arith in rw k
 

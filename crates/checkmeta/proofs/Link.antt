@@ -1,28 +1,24 @@
 -- The walk over metadata rows comes to its end exactly where they are laid out as the metadata that they show, which is sound.
-use mathlib.Core.Path.{◌≡◌, refl, sym, ap, ◌∙◌, subst}
-use mathlib.Core.Bool.{Bool, true, false, not, ◌&&◌, ◌||◌}
+use Rattle.std.specs.Prelude.{Option, Some, None}
+use mathlib.Core.Path.{◌≡◌, refl, sym, ap, ◌∙◌}
+use mathlib.Core.Bool.{true, ◌&&◌}
 use mathlib.Core.List.{List, [], ◌∷◌, ◌++◌, append_assoc}
-use Prim.Native.Nat.{ℕ, zero, suc, ◌+◌, ◌-◌, ◌*◌, ◌<◌, ◌≤◌}
+use Prim.Native.Nat.{ℕ, zero, suc, ◌+◌, ◌*◌, ◌≤◌}
 use native.Mathlib.Omega.{arith}
 use native.Mathlib.Nat.{add-zero}
-use lib.Dec.{eqb, leb}
-use lib.ListN.{length, drop, get_or, length-append, length-drop}
+use lib.ListN.{length, drop, length-append, length-drop}
 use borrow.Author.Tests.{eq-eqb, le-leb}
-use Rattle.ground.specs.Choice.{pick}
 use Rattle.ground.specs.Lists.{every, joined}
 use Rattle.ground.specs.Regions.{blank, fits, part}
 use Rattle.ground.proofs.Bools.{bool_cases, never_both, and_true, true_and, every_first, every_more}
 use Rattle.ground.proofs.Rest.{rest_rest}
-use Rattle.ground.proofs.Regions.{part_length, part_short}
+use Rattle.ground.proofs.Regions.{part_length}
 use Rattle.netlist.specs.Netlist.{Meta, meta_strings, members_of, attr_bits_of}
 use Rattle.netlist.specs.Rules.{refers, is_member, is_byte, is_trit, is_number, meta_sound, metas_sound}
 use Rattle.netlist.specs.Tables.{Tables, meta_row, meta_rows}
 use Rattle.netlist.specs.View.{word, meta_in, metas_in}
-use Rattle.checkmeta.specs.Fields.{kind_sound, name_sound, text_sound, members_sound, bits_sound, kinds_in}
+use Rattle.checkmeta.specs.Fields.{name_sound, text_sound, members_sound, bits_sound, kinds_in}
 use Rattle.checkmeta.specs.Walk.{sizes_sound, values_sound, placed, meta_good, metas_walk}
-use Rattle.pools.specs.Lying.{lies}
-use Rattle.checkmeta.specs.declared.rows.Metas.{Metas}
-use Rattle.checkmeta.specs.declared.rows.Metas.TheVariants.{Wrong, Ends}
 use Rattle.checkmeta.proofs.ByField.{Fields, Held, short_meta, fields_sound, sound_fields}
 use Rattle.checkmeta.proofs.Fits.{fits_word, fits_first, every_drop, every_part, part_rest, every_word}
 use Rattle.checkmeta.proofs.Laws.{Placed, good_placed, kinds_more}
@@ -253,17 +249,17 @@ module _ (T : Tables) (P : Pools T) where
 
   -- A WALK THAT COMES TO ITS END
   pub walked : (n i s m b x y z : ℕ) → s ≤ 16384 → m ≤ 1024 → b ≤ 131072 → (i + n) * 16 ≤ length T.metas
-      → metas_walk T.members T.attr_bits T.metas i s m b n ≡ Ends x y z → Laid T i s m b n x y z
+      → metas_walk T.members T.attr_bits T.metas i s m b n ≡ Some (x, y, z) → Laid T i s m b n x y z
   unfolding metas_walk
   walked zero i s m b x y z p q r h w = bool_cases (blank (drop (i * 16) T.metas))
-      (λ e. let d : Ends s m b ≡ Ends x y z = rw e at w in laid_none i s m b 0 x y z p q r e (cc (d)) (cc (d)) (cc (d)))
-      (λ e. let d : Wrong ≡ Ends x y z = rw e at w in let k : ◌≡◌ {A = ℕ} 0 1 = cc (d) in absurd (omega arith))
+      (λ e. let d : ◌≡◌ {A = Option (ℕ × ℕ × ℕ)} (Some (s, m, b)) (Some (x, y, z)) = rw e at w in let t : ◌≡◌ {A = ℕ × ℕ × ℕ} (s, m, b) (x, y, z) = cc (d) in laid_none i s m b 0 x y z p q r e (ap (λ (v : ℕ × ℕ × ℕ). v.0) t) (ap (λ (v : ℕ × ℕ × ℕ). v.1) t) (ap (λ (v : ℕ × ℕ × ℕ). v.2) t))
+      (λ e. let d : None ≡ Some (x, y, z) = rw e at w in let k : ◌≡◌ {A = ℕ} 0 1 = cc (d) in absurd (omega arith))
   walked (suc n) i s m b x y z p q r h w =
       let R = drop (i * 16) T.metas in
       bool_cases (meta_good T.members T.attr_bits (kinds_in i T.metas) s m b R)
       (λ g. let o = good_placed T.members T.attr_bits (kinds_in i T.metas) s m b R g in
       laid_more i s m b n x y z h g (walked n (i + 1) (s + (word R 2 + word R 4)) (m + word R 6) (b + word R 8) x y z o.strings o.members o.bits (omega arith) (rw (g, metas_walk) at w)))
-      (λ g. let d : Wrong ≡ Ends x y z = rw (g, metas_walk) at w in let k : ◌≡◌ {A = ℕ} 0 1 = cc (d) in absurd (omega arith))
+      (λ g. let d : None ≡ Some (x, y, z) = rw (g, metas_walk) at w in let k : ◌≡◌ {A = ℕ} 0 1 = cc (d) in absurd (omega arith))
 
   -- AND WHERE THE ROWS ARE LAID and sound it comes to its end, past all that they have
   pub walks : (n i s m b : ℕ) → (i + n) * 16 ≤ length T.metas
@@ -274,7 +270,7 @@ module _ (T : Tables) (P : Pools T) where
       → m + length (members_of (metas_in T n (drop (i * 16) T.metas))) ≤ 1024
       → b + length (attr_bits_of (metas_in T n (drop (i * 16) T.metas))) ≤ 131072
       → metas_walk T.members T.attr_bits T.metas i s m b n
-      ≡ Ends (s + length (meta_strings (metas_in T n (drop (i * 16) T.metas)))) (m + length (members_of (metas_in T n (drop (i * 16) T.metas)))) (b + length (attr_bits_of (metas_in T n (drop (i * 16) T.metas))))
+      ≡ Some (s + length (meta_strings (metas_in T n (drop (i * 16) T.metas))), m + length (members_of (metas_in T n (drop (i * 16) T.metas))), b + length (attr_bits_of (metas_in T n (drop (i * 16) T.metas))))
   unfolding metas_in meta_rows joined metas_walk fits
   walks zero i s m b h f g k p q r = rw (f, add-zero s, add-zero m, add-zero b)
   walks (suc n) i s m b h f g k p q r =

@@ -1,5 +1,5 @@
 -- A walk over metadata rows: each begins in the pools where those before it end, what it has is there, and it keeps the rules.
-use Rattle.std.specs.Prelude.{ℕ, zero, suc, ◌+◌, ◌*◌, Bool, true, false, ◌&&◌, List, leb, eqb, drop}
+use Rattle.std.specs.Prelude.{ℕ, zero, suc, ◌+◌, ◌*◌, Bool, true, false, ◌&&◌, List, eqb, drop, Option, Some, None}
 use Rattle.pools.specs.Lying.{lies}
 use Rattle.ground.specs.Choice.{pick}
 use Rattle.ground.specs.Lists.{every}
@@ -7,8 +7,6 @@ use Rattle.ground.specs.Regions.{blank, part}
 use Rattle.netlist.specs.Rules.{refers, is_member, is_trit}
 use Rattle.netlist.specs.View.{word}
 use Rattle.checkmeta.specs.Fields.{kind_sound, name_sound, text_sound, members_sound, bits_sound, inside_sound, source_sound, number_sound, range_sound, kinds_in}
-use Rattle.checkmeta.specs.declared.rows.Metas.{Metas}
-use Rattle.checkmeta.specs.declared.rows.Metas.TheVariants.{Wrong, Ends}
 
 abbrev pub sizes_sound : List ℕ → Bool
 sizes_sound row =
@@ -33,14 +31,14 @@ meta_good members bits kinds s m b row =
     && (every (refers is_member kinds) (part m (word row 6) members) && every is_trit (part b (word row 8) bits)))
 
 -- the rows from the row i on, of which so many are left
-unfoldable pub metas_walk : List ℕ → List ℕ → List ℕ → ℕ → ℕ → ℕ → ℕ → ℕ → Metas
-metas_walk members bits rows i s m b zero = pick (blank (drop (i * 16) rows)) (Ends s m b) Wrong
+unfoldable pub metas_walk : List ℕ → List ℕ → List ℕ → ℕ → ℕ → ℕ → ℕ → ℕ → Option (ℕ × ℕ × ℕ)
+metas_walk members bits rows i s m b zero = pick (blank (drop (i * 16) rows)) (Some (s, m, b)) None
 metas_walk members bits rows i s m b (suc left) =
     elim (meta_good members bits (kinds_in i rows) s m b (drop (i * 16) rows)) [
       | true ↦ metas_walk members bits rows (i + 1) (s + (word (drop (i * 16) rows) 2 + word (drop (i * 16) rows) 4)) (m + word (drop (i * 16) rows) 6) (b + word (drop (i * 16) rows) 8) left
-      | false ↦ Wrong
+      | false ↦ None
     ]
 
-abbrev pub strings_upto : Metas → ℕ
-strings_upto Wrong = 0
-strings_upto (Ends s m b) = s
+abbrev pub strings_upto : Option (ℕ × ℕ × ℕ) → ℕ
+strings_upto None = 0
+strings_upto (Some (s, m, b)) = s

@@ -90,11 +90,8 @@ pub(crate) fn all_members(metas: &[u32], n: usize, members: &[u32]) -> bool
     requires { n * 16 ≤ length metas.now }
     ensures { result ≡ every (refers is_member (kinds_in n metas.now)) members.now }
 {
-    let mut i = 0;
-    while i < members.len() {
-        if refers_to(metas, n, members[i], Asks::Member) {
-            i += 1;
-        } else {
+    for member in members {
+        if !refers_to(metas, n, *member, Asks::Member) {
             return false;
         }
     }

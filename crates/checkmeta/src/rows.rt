@@ -9,13 +9,6 @@ use crate::fields::{
 use crate::refs::{all_members, inside_sound, source_sound};
 use pools::{all_trits, blank_words, both, lies_at, word_of};
 
-// What a walk over metadata rows ends with: where the strings, the members and the trits end.
-#[derive(Clone, Copy)]
-pub enum Metas {
-    Wrong,
-    Ends(usize, usize, usize),
-}
-
 // Kind and sizes.
 fn sizes_sound(row: &[u32]) -> bool
     requires { 16 ≤ length row.now }
@@ -97,27 +90,29 @@ fn meta_good(
 }
 
 // The walk over n rows: whether they are good and nothing stands behind them.
-pub fn metas_good(metas: &[u32], n: usize, members: &[u32], bits: &[u8]) -> Metas
+pub fn metas_good(
+    metas: &[u32],
+    n: usize,
+    members: &[u32],
+    bits: &[u8],
+) -> Option<(usize, usize, usize)>
     requires { (n * 16 ≤ length metas.now) × (length members.now ≡ 1024) × (length bits.now ≡ 131072) }
     ensures { (result ≡ metas_walk members.now bits.now metas.now 0 0 0 0 n) × (strings_upto result ≤ 16384) }
 {
-    let mut i = 0;
     let mut s = 0;
     let mut m = 0;
     let mut b = 0;
-    while i < n {
+    for i in 0..n {
         let at = i * 16;
-        if meta_good(metas, i, &metas[at..], members, bits, s, m, b) {
-            s += word_of(metas, at + 2) + word_of(metas, at + 4);
-            m += word_of(metas, at + 6);
-            b += word_of(metas, at + 8);
-            i += 1;
-        } else {
-            return Metas::Wrong;
+        if !meta_good(metas, i, &metas[at..], members, bits, s, m, b) {
+            return None;
         }
+        s += word_of(metas, at + 2) + word_of(metas, at + 4);
+        m += word_of(metas, at + 6);
+        b += word_of(metas, at + 8);
     }
-    if blank_words(metas, i * 16) {
-        return Metas::Ends(s, m, b);
+    if blank_words(metas, n * 16) {
+        return Some((s, m, b));
     }
-    Metas::Wrong
+    None
 }

@@ -8,19 +8,11 @@ ghost use Rattle.ground.specs.Regions.{zeros};
 pub fn clear_words(words: &mut [u32])
     ensures { words.new ≡ zeros (length words.old) }
 {
-    let mut i: usize = 0;
-    while i < words.len() {
-        words[i] = 0;
-        i += 1;
-    }
+    words.fill(0);
 }
 
 pub fn clear_bytes(bytes: &mut [u8])
     ensures { bytes.new ≡ zeros (length bytes.old) }
 {
-    let mut i: usize = 0;
-    while i < bytes.len() {
-        bytes[i] = 0;
-        i += 1;
-    }
+    bytes.fill(0);
 }

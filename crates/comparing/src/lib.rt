@@ -5,19 +5,10 @@
 ghost use Rattle.std.specs.Prelude.{◌≡◌};
 ghost use Rattle.ground.specs.Text.{same};
 
-// Whether two slices hold the same bytes; those of other lengths are never compared.
+// Whether two slices hold the same bytes.
+#[tactic(auto, using(ground::proofs::Same::same_pointwise))]
 pub fn same_bytes(a: &[u8], b: &[u8]) -> bool
     ensures { result ≡ same a.now b.now }
 {
-    if a.len() == b.len() {
-        let mut i = 0;
-        while i < a.len() {
-            if a[i] != b[i] {
-                return false;
-            }
-            i += 1;
-        }
-        return true;
-    }
-    false
+    a == b
 }

@@ -1,4 +1,5 @@
 -- Tables of their full lengths, computed: those that hold a netlist, and lent slices at the edge of what is asked of them.
+use Rattle.std.specs.Prelude.{Ok, Err}
 use mathlib.Core.Path.{◌≡◌, refl}
 use mathlib.Core.Bool.{true}
 use mathlib.Core.List.{◌∷◌}
@@ -13,7 +14,6 @@ use Rattle.netlist.specs.Rules.{taken, distinct, names_as, roomy, metas_sound, v
 use Rattle.netlist.specs.Tables.{Tables, meta_rows, io_rows, cell_rows, run_rows, layout, rows_of, bits_of, tables_in}
 use Rattle.netlist.specs.View.{metas_in, ios_in, runs_in, cells_in, view}
 use Rattle.netlist.specs.Good.{laid, good, short, check_of}
-use Rattle.netlist.specs.declared.Checked.TheVariants.{Good, Refused}
 use Rattle.netlist.proofs.Cases.{meta, metas, cell, netlist, whole}
 
 -- the tables of a netlist show it again, through slices of their full lengths; and they are good
@@ -31,8 +31,8 @@ held = refl
 
 -- lent slices: one word short is 1; zeros show no declaration, and are good; a row counted that is not there is 15
 lent_right :
-    (check_of (replicate 26306 0) (replicate 16384 0) (replicate 393728 0) ≡ Refused (refusal 1 (at 0)))
-    × (check_of (replicate 26307 0) (replicate 16384 0) (replicate 393728 0) ≡ Good)
-    × (check_of (1 ∷ replicate 26306 0) (replicate 16384 0) (replicate 393728 0) ≡ Refused (refusal 15 (at 0)))
+    (check_of (replicate 26306 0) (replicate 16384 0) (replicate 393728 0) ≡ Err (refusal 1 (at 0)))
+    × (check_of (replicate 26307 0) (replicate 16384 0) (replicate 393728 0) ≡ Ok tt)
+    × (check_of (1 ∷ replicate 26306 0) (replicate 16384 0) (replicate 393728 0) ≡ Err (refusal 15 (at 0)))
 unfolding every all_of total joined bytes same kind_at longest taken distinct names_as roomy metas_sound valid zeros blank fits pad part meta_rows io_rows cell_rows run_rows tables_in metas_in ios_in runs_in cells_in view laid good short check_of
 lent_right = (refl, refl, refl)

@@ -5,16 +5,15 @@
 ghost use Rattle.std.specs.Prelude.{◌≡◌, map, ◌+◌, ◌≤◌, length};
 ghost use Rattle.std.proofs.lemmas.List.Edits.{sets};
 ghost use Rattle.ground.specs.Regions.{part};
-ghost use Rattle.signs.specs.Bytes.{table, trit_of};
+ghost use Rattle.signs.specs.Bytes.{trit_of};
 
-use signs::classes::class_at;
+use signs::classes::Classes;
 
 // 0, 1, and 2 for X.
-fn trit_of(t: &[u8; 256], b: u8) -> u8
-    requires { t.now ≡ table }
+fn trit_of(t: &Classes, b: u8) -> u8
     ensures { result ≡ trit_of b }
 {
-    if class_at(t, b) == 6 {
+    if t.class_at(b) == 6 {
         return 2;
     }
     if b < 48 {
@@ -24,13 +23,11 @@ fn trit_of(t: &[u8; 256], b: u8) -> u8
 }
 
 // The trits that `size` bytes of the text mean, from the place `at` of the run trits on.
-pub fn copy_trits(t: &[u8; 256], text: &[u8], from: usize, size: usize, trits: &mut [u8], at: usize)
-    requires { (t.now ≡ table) × (from + size ≤ length text.now) × (at + size ≤ length trits.old) }
+pub fn copy_trits(t: &Classes, text: &[u8], from: usize, size: usize, trits: &mut [u8], at: usize)
+    requires { (from + size ≤ length text.now) × (at + size ≤ length trits.old) }
     ensures { trits.new ≡ sets trits.old at (map trit_of (part from size text.now)) }
 {
-    let mut i: usize = 0;
-    while i < size {
+    for i in 0..size {
         trits[at + i] = trit_of(t, text[from + i]);
-        i += 1;
     }
 }

@@ -94,12 +94,10 @@ fn put_digits(room: &mut [u8], n: usize, x: u32, k: usize) -> usize
 {
     let mut n = n;
     let mut left = x;
-    let mut i = k;
-    while 0 < i {
-        let s = split_at(left, i);
+    for i in (0..k).rev() {
+        let s = split_at(left, i + 1);
         n = put(room, n, digit_byte(s.digit));
         left = s.rest;
-        i -= 1;
     }
     put(room, n, digit_byte(left))
 }

@@ -1,8 +1,9 @@
 -- How the declarations of a text go on.
+use Rattle.std.specs.Prelude.{Option, Result, Ok, Err, Some, None}
 use mathlib.Core.Path.{◌≡◌, refl, sym, ap, ap₂, ◌∙◌, subst}
 use mathlib.Core.Bool.{Bool, true, false}
 use mathlib.Core.List.{List, [], ◌∷◌, ◌++◌, append-nil}
-use mathlib.Core.Option.{Option, none, some}
+use mathlib.Core.Option.{none, some}
 use Prim.Native.Nat.{ℕ, zero, suc, ◌+◌, ◌-◌, ◌<◌, ◌≤◌}
 use native.Mathlib.Numerals.{sub-one, add-one}
 use native.Mathlib.Omega.{arith}
@@ -24,8 +25,6 @@ use Rattle.noting.specs.Rulings.{io_declared}
 use Rattle.metas.specs.MetaRows.{is_metadata}
 use Rattle.declaring.specs.declared.notes.Sort.{Sort}
 use Rattle.declaring.specs.declared.notes.Sort.TheVariants as sort
-use Rattle.form.specs.declared.Form.{Form}
-use Rattle.form.specs.declared.Form.TheVariants as form
 use Rattle.netlist.specs.Netlist.{Run, Cell, cell_runs, runs_of}
 use Rattle.netlist.specs.Rules.{roomy}
 use Rattle.saying.specs.Values.{row_from, operand_runs}
@@ -43,23 +42,18 @@ use Rattle.declaring.specs.Fresh.{NamesMarked, Freshens}
 use Rattle.declaring.proofs.Freshness.{nothing_marked}
 use Rattle.declaring.specs.Going.{no_tally, sort_of, Knows, NotesOne, TookOf, Took, NotedMarked, Went, TakenOf, TakesOne, Blank, Whole, AllNoted}
 use Rattle.noting.specs.Noted.{NotedSome, After}
-use Rattle.noting.specs.declared.Noting.{Noting}
-use Rattle.noting.specs.declared.Noting.TheVariants as noting
-use Rattle.declaring.specs.declared.declarations.Next.{Next}
-use Rattle.declaring.specs.declared.declarations.Next.TheVariants as next
-use Rattle.declaring.specs.declared.declarations.Told.TheVariants as told
 
 -- A DECLARATION by its form
 module _ (text : List ℕ) (k : ℕ) (so : Sofar) where
-  pub form_stops : (g : Refusal) → form_at text k ≡ form.Refused g → (f : ℕ) → declarations_from (suc f) text k so ≡ stopped g
+  pub form_stops : (g : Refusal) → form_at text k ≡ Err g → (f : ℕ) → declarations_from (suc f) text k so ≡ stopped g
   unfolding declarations_from
   form_stops g e f = rw (e, declarations_from)
 
-  pub form_ends : form_at text k ≡ form.End → (f : ℕ) → declarations_from (suc f) text k so ≡ all so
+  pub form_ends : form_at text k ≡ Ok None → (f : ℕ) → declarations_from (suc f) text k so ≡ all so
   unfolding declarations_from
   form_ends e f = rw (e, declarations_from)
 
-  module _ (d : Declared) (r : Reader) (e : form_at text k ≡ form.Took d r) where
+  module _ (d : Declared) (r : Reader) (e : form_at text k ≡ Ok (Some (d, r))) where
     pub rule_stops : (g : Refusal) → ruled_out text so d ≡ some g → (f : ℕ) → declarations_from (suc f) text k so ≡ stopped g
     unfolding declarations_from
     rule_stops g h f = rw (e, declarations_from, h)
@@ -187,7 +181,7 @@ is_metadata_lem (decl.Io i x) e = let z : ◌≡◌ {A = ℕ} 1 0 = ap numbered 
 is_metadata_lem (decl.Cell v) e = let z : ◌≡◌ {A = ℕ} 2 0 = ap numbered e in absurd (omega arith)
 
 -- an I/O declaration by its parts
-pub pad_noted : {text : List ℕ} {d : Declared} {n : Tally} {rows bits work : List ℕ} {v : Noting} {rows' : List ℕ} (name : Str) (width : ℕ) → d.decl ≡ decl.Io name width
+pub pad_noted : {text : List ℕ} {d : Declared} {n : Tally} {rows bits work : List ℕ} {v : Result Tally Refusal} {rows' : List ℕ} (name : Str) (width : ℕ) → d.decl ≡ decl.Io name width
     → ((bits work : List ℕ) (so : Sofar) (index : ℕ) → Noted text so n rows bits work → After text so (io_declared d.place index name width) v rows' bits work)
     → NotesOne text d n rows bits work v rows' bits work
 pad_noted {text} {d} {n} {rows} {bits} {work} {v} {rows'} name width e o =
@@ -198,17 +192,17 @@ pad_noted {text} {d} {n} {rows} {bits} {work} {v} {rows'} name width e o =
     declared_of p i x = record { place = p; index = i; decl = x }
 
 -- ONE DECLARATION
-module _ {text : List ℕ} {d : Declared} {n : Tally} {rows bits work : List ℕ} {v : Noting} {rows' bits' work' : List ℕ} (reader : Reader) (o : NotesOne text d n rows bits work v rows' bits' work') where
-  pub one_refused : (g : Refusal) → v ≡ noting.Refused g → Took text d reader n rows bits work (next.Stopped g) rows' bits' work'
-  one_refused g e = record { after = λ so h. subst (λ (x : Noting). After text so d x rows' bits' work') e (o.after so h) }
+module _ {text : List ℕ} {d : Declared} {n : Tally} {rows bits work : List ℕ} {v : Result Tally Refusal} {rows' bits' work' : List ℕ} (reader : Reader) (o : NotesOne text d n rows bits work v rows' bits' work') where
+  pub one_refused : (g : Refusal) → v ≡ Err g → Took text d reader n rows bits work (Err g) rows' bits' work'
+  one_refused g e = record { after = λ so h. subst (λ (x : Result Tally Refusal). After text so d x rows' bits' work') e (o.after so h) }
 
-  pub one_more : (m : Tally) → v ≡ noting.More m → Took text d reader n rows bits work (next.Went m reader) rows' bits' work'
-  one_more m e = record { after = λ so h. let a = subst (λ (x : Noting). After text so d x rows' bits' work') e (o.after so h) in (refl, a.0, a.1) }
+  pub one_more : (m : Tally) → v ≡ Ok m → Took text d reader n rows bits work (Ok (Some (m, reader))) rows' bits' work'
+  one_more m e = record { after = λ so h. let a = subst (λ (x : Result Tally Refusal). After text so d x rows' bits' work') e (o.after so h) in (refl, a.0, a.1) }
 
-next_of : (text : List ℕ) (k : ℕ) (n : Tally) (d : Declared) (q : Reader) → form_at text k ≡ form.Took d q → (so : Sofar) (v : Next) (rows bits work seen : List ℕ) → NamesMarked seen (added so d.index (said_by text so d.decl)) → TookOf text so d q v rows bits work → TakenOf text so k n v rows bits work seen
-next_of text k n d q e so (next.Stopped g) rows bits work seen s a = rule_stops text k so d q e g a
-next_of text k n d q e so next.Ended rows bits work seen s a = absurd (omega arith)
-next_of text k n d q e so (next.Went m r) rows bits work seen s a = record {
+next_of : (text : List ℕ) (k : ℕ) (n : Tally) (d : Declared) (q : Reader) → form_at text k ≡ Ok (Some (d, q)) → (so : Sofar) (v : Result (Option (Tally × Reader)) Refusal) (rows bits work seen : List ℕ) → NamesMarked seen (added so d.index (said_by text so d.decl)) → TookOf text so d q v rows bits work → TakenOf text so k n v rows bits work seen
+next_of text k n d q e so (Err g) rows bits work seen s a = rule_stops text k so d q e g a
+next_of text k n d q e so (Ok None) rows bits work seen s a = absurd (omega arith)
+next_of text k n d q e so (Ok (Some (m, r))) rows bits work seen s a = record {
   more = added so d.index (said_by text so d.decl);
   on = λ f. goes_on text k so d q e a.1 f ∙ ap (λ (x : Reader). declarations_from f text x.next.at (added so d.index (said_by text so d.decl))) (sym a.0);
   noted = a.2;
@@ -217,13 +211,13 @@ next_of text k n d q e so (next.Went m r) rows bits work seen s a = record {
 }
 
 module _ {text : List ℕ} {k : ℕ} {n : Tally} {rows bits work seen : List ℕ} where
-  pub next_refused : (g : Refusal) → form_at text k ≡ form.Refused g → TakesOne text k n rows bits work seen (next.Stopped g) rows bits work seen
+  pub next_refused : (g : Refusal) → form_at text k ≡ Err g → TakesOne text k n rows bits work seen (Err g) rows bits work seen
   next_refused g e = record { after = λ so h m. form_stops text k so g e }
 
-  pub next_ended : form_at text k ≡ form.End → TakesOne text k n rows bits work seen next.Ended rows bits work seen
+  pub next_ended : form_at text k ≡ Ok None → TakesOne text k n rows bits work seen (Ok None) rows bits work seen
   next_ended e = record { after = λ so h m. (form_ends text k so e, h) }
 
-  pub next_took : {d : Declared} {q : Reader} {v : Next} {fresh : Bool} {rows' bits' work' seen' : List ℕ} → form_at text k ≡ form.Took d q → Freshens text d seen fresh seen' → Took text d q n rows bits work v rows' bits' work' → TakesOne text k n rows bits work seen v rows' bits' work' seen'
+  pub next_took : {d : Declared} {q : Reader} {v : Result (Option (Tally × Reader)) Refusal} {fresh : Bool} {rows' bits' work' seen' : List ℕ} → form_at text k ≡ Ok (Some (d, q)) → Freshens text d seen fresh seen' → Took text d q n rows bits work v rows' bits' work' → TakesOne text k n rows bits work seen v rows' bits' work' seen'
   next_took {d} {q} {v} {fresh} {rows'} {bits'} {work'} {seen'} e f o = record { after = λ so h m. next_of text k n d q e so v rows' bits' work' seen' (f.after so m).1 (o.after so h) }
 
 -- THE LOOP: the rest of the text gives what the whole gives
@@ -242,26 +236,26 @@ module _ {text : List ℕ} {left k : ℕ} {n : Tally} {rows bits work seen : Lis
   pub go_some : NotedMarked text n rows bits work seen
   go_some = record { so = w.so; noted = w.noted; marked = w.marked }
 
-  pub go_out : left ≤ 0 → AllNoted text (told.All n) rows bits work
+  pub go_out : left ≤ 0 → AllNoted text (Ok n) rows bits work
   unfolding declarations_from
   go_out h =
       let z : left ≡ 0 = omega arith in
       record { after = record { so = w.so; is = sym w.rest ∙ ap (λ (f : ℕ). declarations_from f text k w.so) z; noted = w.noted; knows = w.knows } }
 
-  module _ {v : Next} {rows' bits' work' seen' : List ℕ} (h : 0 < left) (o : TakesOne text k n rows bits work seen v rows' bits' work' seen') where
-    from : (v' : Next) → v ≡ v' → TakenOf text w.so k n v' rows' bits' work' seen'
-    from v' e = subst (λ (x : Next). TakenOf text w.so k n x rows' bits' work' seen') e (o.after w.so w.noted w.marked)
+  module _ {v : Result (Option (Tally × Reader)) Refusal} {rows' bits' work' seen' : List ℕ} (h : 0 < left) (o : TakesOne text k n rows bits work seen v rows' bits' work' seen') where
+    from : (v' : Result (Option (Tally × Reader)) Refusal) → v ≡ v' → TakenOf text w.so k n v' rows' bits' work' seen'
+    from v' e = subst (λ (x : Result (Option (Tally × Reader)) Refusal). TakenOf text w.so k n x rows' bits' work' seen') e (o.after w.so w.noted w.marked)
 
     again : declarations_from (suc (left - 1)) text k w.so ≡ declarations_from (suc (length text)) text 0 nothing
     again = let z : suc (left - 1) ≡ left = omega arith in ap (λ (f : ℕ). declarations_from f text k w.so) z ∙ w.rest
 
-    pub go_stopped : (g : Refusal) → v ≡ next.Stopped g → AllNoted text (told.Stopped g) rows' bits' work'
-    go_stopped g e = record { after = sym again ∙ from (next.Stopped g) e (left - 1) }
+    pub go_stopped : (g : Refusal) → v ≡ Err g → AllNoted text (Err g) rows' bits' work'
+    go_stopped g e = record { after = sym again ∙ from (Err g) e (left - 1) }
 
-    pub go_ended : v ≡ next.Ended → AllNoted text (told.All n) rows' bits' work'
-    go_ended e = let a = from next.Ended e in record { after = record { so = w.so; is = sym again ∙ a.0 (left - 1); noted = a.1; knows = w.knows } }
+    pub go_ended : v ≡ Ok None → AllNoted text (Ok n) rows' bits' work'
+    go_ended e = let a = from (Ok None) e in record { after = record { so = w.so; is = sym again ∙ a.0 (left - 1); noted = a.1; knows = w.knows } }
 
-    pub go_more : (m : Tally) (r : Reader) → v ≡ next.Went m r → Going text (left - 1) r.next.at m rows' bits' work' seen'
+    pub go_more : (m : Tally) (r : Reader) → v ≡ Ok (Some (m, r)) → Going text (left - 1) r.next.at m rows' bits' work' seen'
     go_more m r e =
-        let a = from (next.Went m r) e in
+        let a = from (Ok (Some (m, r))) e in
         record { so = a.more; noted = a.noted; marked = a.marked; knows = a.knows w.knows; rest = sym (a.on (left - 1)) ∙ again }

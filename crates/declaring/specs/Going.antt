@@ -1,5 +1,6 @@
 -- The declarations of a text while they are noted, one after the other.
-use Rattle.std.specs.Prelude.{◌≡◌, true, false, List, ℕ, suc, ◌+◌, length}
+use Rattle.ground.specs.declared.Refusal.{Refusal}
+use Rattle.std.specs.Prelude.{◌≡◌, true, false, List, ℕ, suc, ◌+◌, length, Result, Ok, Err, Option, Some, None}
 use Rattle.std.proofs.Math.Option.{none, some}
 use Rattle.ground.specs.Lists.{every}
 use Rattle.ground.specs.Regions.{zeros}
@@ -12,16 +13,11 @@ use Rattle.saying.specs.Pieces.{first_unresolved}
 use Rattle.saying.specs.Rules.{Sofar, nothing, said_by, added, ruled_out}
 use Rattle.noting.specs.Noted.{Noted, After}
 use Rattle.noting.specs.declared.Tally.{Tally}
-use Rattle.noting.specs.declared.Noting.{Noting}
 use Rattle.resolving.specs.Resolving.{is_declared}
 use Rattle.declaring.specs.Fresh.{NamesMarked}
 use Rattle.declaring.specs.Reading.{Declarations, all, stopped, declarations_from}
 use Rattle.declaring.specs.declared.notes.Sort.{Sort}
 use Rattle.declaring.specs.declared.notes.Sort.TheVariants as sort
-use Rattle.declaring.specs.declared.declarations.Next.{Next}
-use Rattle.declaring.specs.declared.declarations.Next.TheVariants as next
-use Rattle.declaring.specs.declared.declarations.Told.{Told}
-use Rattle.declaring.specs.declared.declarations.Told.TheVariants as told
 
 abbrev pub no_tally : Tally
 no_tally = record { metas = 0; ios = 0; cells = 0; members = 0; trits = 0; runs = 0; known = 0; declared = 0; outputs = 0; strings = 0; bare = false }
@@ -40,17 +36,17 @@ sort_of (decl.Cell w) = sort.Cell w
 pub record Knows (so : Sofar) : Type 0 where
   pub declared : (numbers widths : List ℕ) → first_unresolved numbers widths so.pieces ≡ none → every (is_declared numbers) (runs_of so.netlist.cells) ≡ true
 
-pub record NotesOne (text : List ℕ) (d : Declared) (n : Tally) (rows bits work : List ℕ) (r : Noting) (rows' bits' work' : List ℕ) : Type 0 where
+pub record NotesOne (text : List ℕ) (d : Declared) (n : Tally) (rows bits work : List ℕ) (r : Result Tally Refusal) (rows' bits' work' : List ℕ) : Type 0 where
   pub after : (so : Sofar) → Noted text so n rows bits work → After text so d r rows' bits' work'
 
 -- a declaration that the form took: refused, or noted with what was said before
-abbrev pub TookOf : List ℕ → Sofar → Declared → Reader → Next → List ℕ → List ℕ → List ℕ → Type 0
-TookOf text so d reader (next.Stopped g) rows bits work = ruled_out text so d ≡ some g
-TookOf text so d reader next.Ended rows bits work = ◌≡◌ {A = ℕ} 0 1
-TookOf text so d reader (next.Went n r) rows bits work =
+abbrev pub TookOf : List ℕ → Sofar → Declared → Reader → Result (Option (Tally × Reader)) Refusal → List ℕ → List ℕ → List ℕ → Type 0
+TookOf text so d reader (Err g) rows bits work = ruled_out text so d ≡ some g
+TookOf text so d reader (Ok None) rows bits work = ◌≡◌ {A = ℕ} 0 1
+TookOf text so d reader (Ok (Some (n, r))) rows bits work =
     (r ≡ reader) × (ruled_out text so d ≡ none) × Noted text (added so d.index (said_by text so d.decl)) n rows bits work
 
-pub record Took (text : List ℕ) (d : Declared) (reader : Reader) (n : Tally) (rows bits work : List ℕ) (r : Next) (rows' bits' work' : List ℕ) : Type 0 where
+pub record Took (text : List ℕ) (d : Declared) (reader : Reader) (n : Tally) (rows bits work : List ℕ) (r : Result (Option (Tally × Reader)) Refusal) (rows' bits' work' : List ℕ) : Type 0 where
   pub after : (so : Sofar) → Noted text so n rows bits work → TookOf text so d reader r rows' bits' work'
 
 -- notes of something said, whose names have left their marks
@@ -67,12 +63,12 @@ pub record Went (text : List ℕ) (so : Sofar) (k j : ℕ) (n : Tally) (rows bit
   pub marked : NamesMarked seen more
   pub knows : Knows so → Knows more
 
-abbrev pub TakenOf : List ℕ → Sofar → ℕ → Tally → Next → List ℕ → List ℕ → List ℕ → List ℕ → Type 0
-TakenOf text so k n (next.Stopped g) rows bits work seen = (f : ℕ) → declarations_from (suc f) text k so ≡ stopped g
-TakenOf text so k n next.Ended rows bits work seen = ((f : ℕ) → declarations_from (suc f) text k so ≡ all so) × Noted text so n rows bits work
-TakenOf text so k n (next.Went m r) rows bits work seen = Went text so k r.next.at m rows bits work seen
+abbrev pub TakenOf : List ℕ → Sofar → ℕ → Tally → Result (Option (Tally × Reader)) Refusal → List ℕ → List ℕ → List ℕ → List ℕ → Type 0
+TakenOf text so k n (Err g) rows bits work seen = (f : ℕ) → declarations_from (suc f) text k so ≡ stopped g
+TakenOf text so k n (Ok None) rows bits work seen = ((f : ℕ) → declarations_from (suc f) text k so ≡ all so) × Noted text so n rows bits work
+TakenOf text so k n (Ok (Some (m, r))) rows bits work seen = Went text so k r.next.at m rows bits work seen
 
-pub record TakesOne (text : List ℕ) (k : ℕ) (n : Tally) (rows bits work seen : List ℕ) (r : Next) (rows' bits' work' seen' : List ℕ) : Type 0 where
+pub record TakesOne (text : List ℕ) (k : ℕ) (n : Tally) (rows bits work seen : List ℕ) (r : Result (Option (Tally × Reader)) Refusal) (rows' bits' work' seen' : List ℕ) : Type 0 where
   pub after : (so : Sofar) → Noted text so n rows bits work → NamesMarked seen so → TakenOf text so k n r rows' bits' work' seen'
 
 -- nothing noted yet
@@ -88,9 +84,9 @@ pub record Whole (text : List ℕ) (n : Tally) (rows bits work : List ℕ) : Typ
   pub noted : Noted text so n rows bits work
   pub knows : Knows so
 
-abbrev pub AllOf : List ℕ → Told → List ℕ → List ℕ → List ℕ → Type 0
-AllOf text (told.Stopped g) rows bits work = declarations_from (suc (length text)) text 0 nothing ≡ stopped g
-AllOf text (told.All n) rows bits work = Whole text n rows bits work
+abbrev pub AllOf : List ℕ → Result Tally Refusal → List ℕ → List ℕ → List ℕ → Type 0
+AllOf text (Err g) rows bits work = declarations_from (suc (length text)) text 0 nothing ≡ stopped g
+AllOf text (Ok n) rows bits work = Whole text n rows bits work
 
-pub record AllNoted (text : List ℕ) (r : Told) (rows bits work : List ℕ) : Type 0 where
+pub record AllNoted (text : List ℕ) (r : Result Tally Refusal) (rows bits work : List ℕ) : Type 0 where
   pub after : AllOf text r rows bits work

@@ -1,15 +1,12 @@
 -- What a text says: a netlist, or a refusal. Document 01, Refusal numbers: "Reading: 1 to 4 over all the text; then each declaration,
 -- first form (5 to 8, left to right, the smaller at one place), then 9 to 13 by number; last 14, left to right."
-use Rattle.std.specs.Prelude.{ℕ, zero, suc, List, [], ◌∷◌, map, length}
+use Rattle.std.specs.Prelude.{ℕ, zero, suc, List, [], ◌∷◌, map, length, Result, Ok, Err, Some, None}
 use Rattle.std.proofs.Math.Option.{Option, none, some}
 use Rattle.ground.specs.Refusals.{at, refusal}
 use Rattle.ground.specs.declared.Place.{Place}
 use Rattle.ground.specs.declared.Refusal.{Refusal}
 use Rattle.scanning.specs.Whole.{whole_of}
-use Rattle.scanning.specs.declared.Whole.{Whole}
-use Rattle.scanning.specs.declared.Whole.TheVariants as whole
 use Rattle.form.specs.Forms.{form_at}
-use Rattle.form.specs.declared.Form.TheVariants as form
 use Rattle.netlist.specs.Netlist.{Netlist}
 use Rattle.netlist.specs.Rules.{widths_of}
 use Rattle.saying.specs.Values.{row_cell}
@@ -25,9 +22,9 @@ pub data Declarations : Type 0 where
 unfoldable pub declarations_from : ℕ → List ℕ → ℕ → Sofar → Declarations
 declarations_from zero text k so = all so
 declarations_from (suc f) text k so = elim (form_at text k) [
-  | form.Refused g ↦ stopped g
-  | form.End ↦ all so
-  | form.Took d r ↦ elim (ruled_out text so d) [
+  | Err g ↦ stopped g
+  | Ok None ↦ all so
+  | Ok (Some (d, r)) ↦ elim (ruled_out text so d) [
     | some g ↦ stopped g
     | none ↦ declarations_from f text r.next.at (added so d.index (said_by text so d.decl))
   ]
@@ -54,9 +51,9 @@ declared (stopped g) = refused g
 unfoldable pub read_sound : List ℕ → Reading
 read_sound text = declared (declarations_from (suc (length text)) text 0 nothing)
 
-abbrev read_whole : List ℕ → Whole → Reading
-read_whole text whole.Sound = read_sound text
-read_whole text (whole.Unsound g) = refused g
+abbrev read_whole : List ℕ → Result (Unit {0}) Refusal → Reading
+read_whole text (Ok tt) = read_sound text
+read_whole text (Err g) = refused g
 
 unfoldable pub reading : List ℕ → Reading
 reading text = read_whole text (whole_of text)

@@ -1,6 +1,5 @@
 // The declarations of a text, one after the other, each noted in the tables.
 ghost use Rattle.std.specs.Prelude.{◌≡◌, ◌≤◌, length};
-ghost use Rattle.signs.specs.Bytes.{table};
 ghost use Rattle.noting.specs.Noted.{NotedSome};
 ghost use Rattle.noting.specs.Formed.{Formed};
 ghost use Rattle.declaring.specs.Fresh.{FreshDecl};
@@ -12,23 +11,8 @@ use form::forms::declaration_with;
 use form::{Declared, Form};
 use ground::{Place, Refusal};
 use lexis::Reader;
-use noting::{Noting, Tally};
-use signs::classes::classes;
-
-// Where the next declaration leaves the reader: one more is noted, none is left, or a refusal.
-#[derive(Clone, Copy)]
-pub enum Next {
-    Went(Tally, Reader),
-    Ended,
-    Stopped(Refusal),
-}
-
-// All declarations are noted, or why one is refused.
-#[derive(Clone, Copy)]
-pub enum Told {
-    All(Tally),
-    Stopped(Refusal),
-}
+use noting::Tally;
+use signs::classes::Classes;
 
 fn no_tally() -> Tally
     ensures { result ≡ no_tally }
@@ -50,7 +34,7 @@ fn no_tally() -> Tally
 
 // A declaration that the form took, whose name may be known to be fresh.
 fn take_one(
-    t: &[u8; 256],
+    t: &Classes,
     text: &[u8],
     d: Declared,
     reader: Reader,
@@ -59,19 +43,17 @@ fn take_one(
     work: &mut [u32],
     n: Tally,
     fresh: bool,
-) -> Next
-    requires { (t.now ≡ table) × (length text.now ≤ 65536) × NotedSome text.now n rows.old bits.old work.old × Formed text.now d × FreshDecl text.now rows.old n d.decl fresh }
+) -> Result<Option<(Tally, Reader)>, Refusal>
+    requires { (length text.now ≤ 65536) × NotedSome text.now n rows.old bits.old work.old × Formed text.now d × FreshDecl text.now rows.old n d.decl fresh }
     ensures { Took text.now d reader n rows.old bits.old work.old result rows.new bits.new work.new }
 {
-    match note(t, text, d, rows, bits, work, n, fresh) {
-        Noting::Refused(g) => Next::Stopped(g),
-        Noting::More(m) => Next::Went(m, reader),
-    }
+    let m = note(t, text, d, rows, bits, work, n, fresh)?;
+    Ok(Some((m, reader)))
 }
 
 // The declaration from the reader's place on; a name that it brings leaves its mark.
 fn take_next(
-    t: &[u8; 256],
+    t: &Classes,
     text: &[u8],
     reader: Reader,
     rows: &mut [u32],
@@ -79,30 +61,27 @@ fn take_next(
     work: &mut [u32],
     seen: &mut [u8],
     n: Tally,
-) -> Next
-    requires { (t.now ≡ table) × (length text.now ≤ 65536) × NotedMarked text.now n rows.old bits.old work.old seen.old }
+) -> Result<Option<(Tally, Reader)>, Refusal>
+    requires { (length text.now ≤ 65536) × NotedMarked text.now n rows.old bits.old work.old seen.old }
     ensures { TakesOne text.now reader.next.at n rows.old bits.old work.old seen.old result rows.new bits.new work.new seen.new }
 {
-    match declaration_with(t, text, reader) {
-        Form::Refused(g) => Next::Stopped(g),
-        Form::End => Next::Ended,
-        Form::Took(d, r) => {
-            let fresh = is_fresh(text, d, seen);
-            take_one(t, text, d, r, rows, bits, work, n, fresh)
-        }
-    }
+    let Some((d, r)) = declaration_with(t, text, reader)? else {
+        return Ok(None);
+    };
+    let fresh = is_fresh(text, d, seen);
+    take_one(t, text, d, r, rows, bits, work, n, fresh)
 }
 
 // All declarations, with a map for the marks of their names.
 fn declare_all(
-    t: &[u8; 256],
+    t: &Classes,
     text: &[u8],
     rows: &mut [u32],
     bits: &mut [u8],
     work: &mut [u32],
     seen: &mut [u8],
-) -> Told
-    requires { (t.now ≡ table) × (length text.now ≤ 65536) × Blank rows.old bits.old work.old × (length seen.old ≡ 65536) }
+) -> Result<Tally, Refusal>
+    requires { (length text.now ≤ 65536) × Blank rows.old bits.old work.old × (length seen.old ≡ 65536) }
     ensures { AllNoted text.now result rows.new bits.new work.new }
 {
     let mut n = no_tally();
@@ -111,29 +90,27 @@ fn declare_all(
     };
     let mut left = text.len() + 1;
     while 0 < left {
-        match take_next(t, text, reader, rows, bits, work, seen, n) {
-            Next::Stopped(g) => {
-                return Told::Stopped(g);
-            }
-            Next::Ended => {
-                return Told::All(n);
-            }
-            Next::Went(m, r) => {
-                n = m;
-                reader = r;
-            }
-        }
+        let Some((m, r)) = take_next(t, text, reader, rows, bits, work, seen, n)? else {
+            return Ok(n);
+        };
+        n = m;
+        reader = r;
         left -= 1;
     }
-    Told::All(n)
+    Ok(n)
 }
 
 // All declarations. The class table and the map for the marks of names are made once for the whole text, and lent down.
-pub fn declarations(text: &[u8], rows: &mut [u32], bits: &mut [u8], work: &mut [u32]) -> Told
+pub fn declarations(
+    text: &[u8],
+    rows: &mut [u32],
+    bits: &mut [u8],
+    work: &mut [u32],
+) -> Result<Tally, Refusal>
     requires { (length text.now ≤ 65536) × Blank rows.old bits.old work.old }
     ensures { AllNoted text.now result rows.new bits.new work.new }
 {
-    let t = classes();
+    let t = Classes::new();
     let mut seen = [0u8; 65536];
     declare_all(&t, text, rows, bits, work, &mut seen)
 }

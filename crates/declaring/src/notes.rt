@@ -1,6 +1,5 @@
 // One declaration of any kind, noted; its name may be known to be fresh.
 ghost use Rattle.std.specs.Prelude.{◌≡◌, ◌≤◌, length};
-ghost use Rattle.signs.specs.Bytes.{table};
 ghost use Rattle.noting.specs.Noted.{NotedSome};
 ghost use Rattle.noting.specs.Formed.{Formed};
 ghost use Rattle.declaring.specs.Fresh.{FreshDecl};
@@ -8,9 +7,11 @@ ghost use Rattle.declaring.specs.Going.{sort_of, NotesOne};
 
 use brackets::Str;
 use form::{Decl, Declared, Wiring};
+use ground::Refusal;
 use ionotes::note_io;
 use metas::note_meta;
-use noting::{Noting, Tally};
+use noting::Tally;
+use signs::classes::Classes;
 use wiring::note_cell;
 
 // The three sorts of declarations.
@@ -36,7 +37,7 @@ pub(crate) fn sort_of(decl: Decl) -> Sort
 }
 
 pub(crate) fn note(
-    t: &[u8; 256],
+    t: &Classes,
     text: &[u8],
     d: Declared,
     rows: &mut [u32],
@@ -44,8 +45,8 @@ pub(crate) fn note(
     work: &mut [u32],
     n: Tally,
     fresh: bool,
-) -> Noting
-    requires { (t.now ≡ table) × (length text.now ≤ 65536) × NotedSome text.now n rows.old bits.old work.old × Formed text.now d × FreshDecl text.now rows.old n d.decl fresh }
+) -> Result<Tally, Refusal>
+    requires { (length text.now ≤ 65536) × NotedSome text.now n rows.old bits.old work.old × Formed text.now d × FreshDecl text.now rows.old n d.decl fresh }
     ensures { NotesOne text.now d n rows.old bits.old work.old result rows.new bits.new work.new }
 {
     let decl = d.decl;

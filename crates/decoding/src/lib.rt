@@ -4,12 +4,12 @@
 
 ghost use Rattle.std.specs.Prelude.{◌≡◌, true, ◌+◌, ◌<◌, length, set};
 ghost use Rattle.std.proofs.lemmas.List.Edits.{sets};
-ghost use Rattle.signs.specs.Bytes.{table, is_hex, hex_of};
+ghost use Rattle.signs.specs.Bytes.{is_hex, hex_of};
 ghost use Rattle.signs.specs.Pieces.{decoded};
 ghost use Rattle.signs.specs.Decoding.{meant_at, seen, decoded_into};
 
-use signs::classes::classes;
-use signs::pieces::{Meant, Quoted};
+use signs::classes::Classes;
+use signs::pieces::Meant;
 use strings::quoted_at;
 
 fn hex_value(b: u8) -> u8
@@ -54,23 +54,20 @@ pub fn fill(text: &[u8], from: usize, size: usize, room: &mut [u8])
     ensures { room.new ≡ sets room.old 0 (decoded text.now from) }
 {
     let mut i = from;
-    let mut done: usize = 0;
-    while done < size {
+    for done in 0..size {
         let next = next_byte(text, i);
         put(room, done, next.byte);
         i = next.end;
-        done += 1;
     }
 }
 
 // How many bytes the string means: none where it is malformed.
-fn size_of(t: &[u8; 256], text: &[u8], from: usize) -> usize
-    requires { t.now ≡ table }
+fn size_of(t: &Classes, text: &[u8], from: usize) -> usize
     ensures { result ≡ length (decoded text.now from) }
 {
     match quoted_at(t, text, from) {
-        Quoted::Closed { size, .. } => size,
-        Quoted::Malformed => 0,
+        Some((size, _)) => size,
+        None => 0,
     }
 }
 
@@ -78,7 +75,7 @@ fn size_of(t: &[u8; 256], text: &[u8], from: usize) -> usize
 pub fn decode(text: &[u8], from: usize, room: &mut [u8]) -> usize
     ensures { seen result room.new ≡ decoded_into text.now from room.old }
 {
-    let t = classes();
+    let t = Classes::new();
     let size = size_of(&t, text, from);
     fill(text, from, size, room);
     size

@@ -7,11 +7,10 @@ ghost use Rattle.ground.specs.Regions.{zeros};
 ghost use Rattle.reading.specs.Answers.{rows_found, FindsLost, SomeWhole, Ends};
 
 use finishing::finish::finish;
-use ground::Refusal;
+use ground::{Place, Refusal};
 use noting::Tally;
-use reading::Read;
 use regions::{cell_numbers_of, cells_of, places_of, runs_of};
-use resolving::{Lost, first_lost, runs_resolve};
+use resolving::{first_lost, runs_resolve};
 
 // Whether the run rows tell that each piece of the text resolves. A part without bits leaves no run: where one was read, they tell nothing.
 fn all_found(rows: &[u32], work: &[u32], n: Tally) -> bool
@@ -25,12 +24,12 @@ fn all_found(rows: &[u32], work: &[u32], n: Tally) -> bool
 }
 
 // The first piece of the text that does not resolve; the text is read again only where the run rows do not tell that each does.
-fn lost_piece(text: &[u8], rows: &[u32], work: &[u32], n: Tally) -> Lost
+fn lost_piece(text: &[u8], rows: &[u32], work: &[u32], n: Tally) -> Option<Place>
     requires { (length rows.now ≡ 26307) × (length work.now ≡ 132608) × (n.cells ≤ 512) × (n.runs ≤ 4096) }
     ensures { FindsLost text.now n rows.now work.now result }
 {
     if all_found(rows, work, n) {
-        return Lost::Nowhere;
+        return None;
     }
     first_lost(
         text,
@@ -47,15 +46,15 @@ pub fn end_reading(
     strings: &mut [u8],
     work: &[u32],
     n: Tally,
-) -> Read
+) -> Result<(), Refusal>
     requires { SomeWhole text.now n rows.old work.now × (strings.old ≡ zeros 16384) }
     ensures { Ends text.now n rows.old work.now result rows.new strings.new }
 {
     match lost_piece(text, rows, work, n) {
-        Lost::At(place) => Read::Refused(Refusal { number: 14, place }),
-        Lost::Nowhere => {
+        Some(place) => Err(Refusal { number: 14, place }),
+        None => {
             finish(text, rows, strings, work, n);
-            Read::Accepted
+            Ok(())
         }
     }
 }

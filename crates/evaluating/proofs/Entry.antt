@@ -1,8 +1,10 @@
 -- The entry of the evaluation: lent tables that are good, cut into their regions.
-use Prim.Native.Nat.{ℕ, ◌<◌, ◌≤◌}
-use mathlib.Core.Path.{◌≡◌, refl, sym, ap, subst, ◌∙◌}
+use Rattle.ground.specs.declared.Refusal.{Refusal}
+use Rattle.std.specs.Prelude.{Result, Err}
+use Prim.Native.Nat.{ℕ, ◌≤◌}
+use mathlib.Core.Path.{◌≡◌, sym, ap, subst, ◌∙◌}
 use mathlib.Core.Bool.{true, false}
-use mathlib.Core.List.{List, []}
+use mathlib.Core.List.{List}
 use native.Mathlib.Omega.{arith}
 use lib.ListN.{length, take, drop, get_or, length-take, length-drop}
 use Rattle.ground.specs.Refusals.{at, refusal}
@@ -14,7 +16,7 @@ use Rattle.netlist.specs.Good.{good, netlist_in}
 use Rattle.netlist.proofs.Laying.{Long}
 use Rattle.loadlist.specs.Run.{assigns}
 use Rattle.cells.specs.Held.{held_runs}
-use Rattle.placing.specs.Placing.{ringed, input_bits, placing_of}
+use Rattle.placing.specs.Placing.{ringed, input_bits}
 use Rattle.placing.specs.InTables.{Inside, order_in, ring_in}
 use Rattle.placing.proofs.Tabled.{good_inside, good_order, good_ring}
 use Rattle.assigning.specs.Rows.{input_in, rows_total}
@@ -23,8 +25,6 @@ use Rattle.evaluating.specs.Outcome.{Outcome, made, evaluated_of}
 use Rattle.evaluating.specs.InTables.{evaluation_in}
 use Rattle.evaluating.specs.Sound.{TableSound}
 use Rattle.evaluating.specs.Answered.{Answers, Given}
-use Rattle.evaluating.specs.declared.Evaluated.{Evaluated}
-use Rattle.evaluating.specs.declared.Evaluated.TheVariants as evaluated
 use Rattle.evaluating.proofs.Shown.{inputs_are, evaluation_shown}
 use Rattle.evaluating.proofs.Tables.{pool_held, sound_tables}
 use Rattle.evaluating.proofs.Ways.{ring_way, unfit_way, given_way, answered_is}
@@ -34,13 +34,13 @@ clear_long work e = ap length e ∙ length_zeros 8192
 
 -- THE WAYS OUT, where work space is clear before and after
 module _ {cells runs trits : List ℕ} {n : ℕ} {ins outs work work' : List ℕ} (before : work ≡ zeros 8192) (after : work' ≡ zeros 8192) where
-  pub ring_answer : ring_in cells runs n ≡ true → Answers cells runs trits n ins outs work (made (evaluated.Refused (refusal 20 (at 0))) outs work')
+  pub ring_answer : ring_in cells runs n ≡ true → Answers cells runs trits n ins outs work (made (Err (refusal 20 (at 0))) outs work')
   ring_answer r = record { is = ring_way (ring_in cells runs n) (assigns (rows_total input_in n cells) ins) (evaluation_in cells (held_runs runs trits) n (order_in cells runs n) ins) outs work work' (clear_long work before) after r }
 
-  pub unfit_answer : ring_in cells runs n ≡ false → assigns (rows_total input_in n cells) ins ≡ false → Answers cells runs trits n ins outs work (made (evaluated.Refused (refusal 23 (at 0))) outs work')
+  pub unfit_answer : ring_in cells runs n ≡ false → assigns (rows_total input_in n cells) ins ≡ false → Answers cells runs trits n ins outs work (made (Err (refusal 23 (at 0))) outs work')
   unfit_answer r f = record { is = unfit_way (ring_in cells runs n) (assigns (rows_total input_in n cells) ins) (evaluation_in cells (held_runs runs trits) n (order_in cells runs n) ins) outs work work' (clear_long work before) after r f }
 
-  pub given_answer : {order outs' : List ℕ} {e : Evaluated} → order ≡ order_in cells runs n → ring_in cells runs n ≡ false → assigns (rows_total input_in n cells) ins ≡ true
+  pub given_answer : {order outs' : List ℕ} {e : Result ℕ Refusal} → order ≡ order_in cells runs n → ring_in cells runs n ≡ false → assigns (rows_total input_in n cells) ins ≡ true
       → Given (evaluation_in cells (held_runs runs trits) n order ins) outs e outs' → Answers cells runs trits n ins outs work (made e outs' work')
   given_answer {order} {outs'} {e} o r f g =
       record { is = given_way (ring_in cells runs n) (assigns (rows_total input_in n cells) ins) (evaluation_in cells (held_runs runs trits) n (order_in cells runs n) ins) outs work work' (clear_long work before) after e outs' r f (subst (λ (l : List ℕ). Given (evaluation_in cells (held_runs runs trits) n l ins) outs e outs') o g) }

@@ -1,25 +1,16 @@
 -- What each walk of the evaluation has done so far.
-use Prim.Native.Nat.{ℕ, zero, suc, ◌+◌, ◌-◌, ◌*◌, ◌<◌, ◌≤◌}
+use Prim.Native.Nat.{ℕ, suc, ◌+◌, ◌-◌, ◌*◌, ◌<◌, ◌≤◌}
 use mathlib.Core.Path.{◌≡◌, refl, sym, ap, ap₂, ◌∙◌}
-use mathlib.Core.Bool.{true, false}
-use mathlib.Core.List.{List, [], ◌∷◌, ◌++◌, append_assoc}
+use mathlib.Core.List.{List, ◌∷◌, ◌++◌}
 use native.Mathlib.Omega.{arith}
-use native.Mathlib.Numerals.{add-one}
-use lib.Dec.{eqb}
-use lib.ListN.{length, take, drop, get_or, length-append, length-take, length-drop, take-append-drop}
-use lib.Seq.{sets, length-sets, sets-eq, drop-cons, get_or-take, length-take-le, take_all, drop-drop}
-use borrow.Author.Tests.{eq-eqb, ne_eqb}
-use Rattle.ground.specs.Choice.{pick}
-use Rattle.ground.specs.Regions.{part}
+use lib.ListN.{length, take, drop, get_or, length-append, length-take}
+use lib.Seq.{sets, length-sets, get_or-take, length-take-le}
 use Rattle.ground.specs.Writes.{Put}
 use Rattle.ground.proofs.Rest.{rest_cons, rest_end}
-use Rattle.ground.proofs.Writes.{sets_append, put_length, put_nothing}
-use Rattle.kinds.specs.Kinds.{output_kind}
-use Rattle.netlist.specs.Netlist.{Run, Cell}
-use Rattle.cells.specs.Held.{held_bits}
-use Rattle.cells.specs.Operands.{bits_from}
+use Rattle.ground.proofs.Writes.{sets_append, put_length}
+use Rattle.netlist.specs.Netlist.{Run}
 use Rattle.placing.specs.Placing.{output_from}
-use Rattle.assigning.proofs.Laws.{row_next, row_kind}
+use Rattle.assigning.proofs.Laws.{row_next}
 use Rattle.valuing.specs.Row.{cell_of, row_value}
 use Rattle.evaluating.specs.InTables.{settled_in, outputs_in}
 

@@ -1,6 +1,6 @@
 -- All bits in one list of values, those of a row from its start on: rows worked out there hold what the setting of the evaluation holds.
 use mathlib.Core.Path.{◌≡◌, refl, ap, ap₂, ◌∙◌, sym, subst}
-use mathlib.Core.Bool.{Bool, true, false, ◌&&◌, ◌||◌}
+use mathlib.Core.Bool.{Bool, true, false, ◌&&◌}
 use mathlib.Core.Logic.{⊎_elim}
 use mathlib.Core.List.{List, [], ◌∷◌, ◌++◌, map, map-append, reverse}
 use Prim.Native.Nat.{ℕ, zero, suc, ◌+◌, ◌*◌, ◌<◌, ◌≤◌}
@@ -13,29 +13,28 @@ use borrow.Author.Tests.{leb-true}
 use Rattle.ground.specs.Choice.{pick}
 use Rattle.ground.specs.Lists.{every, updated, joined}
 use Rattle.ground.specs.Regions.{part}
-use Rattle.ground.proofs.Bools.{bool_cases, never_both, and_true, or_true, every_first}
+use Rattle.ground.proofs.Bools.{bool_cases, never_both, and_true, every_first}
 use Rattle.ground.proofs.Families.{updated_same, updated_other}
 use Rattle.graph.specs.Graph.{mem, ready, place}
 use Rattle.graph.specs.Placing.{Placing, done, step}
 use Rattle.graph.proofs.Ready.{place_keeps, place_cases, ready_unplaced, ready_reads}
-use Rattle.graph.proofs.Order.{order_placing}
-use Rattle.kinds.specs.Kinds.{input_kind, output_kind}
+use Rattle.kinds.specs.Kinds.{output_kind}
 use Rattle.netlist.specs.Netlist.{Run, const, piece, Cell, Netlist}
-use Rattle.netlist.specs.Runs.{Bit, known, bit, falling, known_bits, operand_bits}
+use Rattle.netlist.specs.Runs.{falling, known_bits, operand_bits}
 use Rattle.netlist.specs.Rules.{run_sound, widths_of, valid}
 use Rattle.cells.specs.Held.{held_bits}
 use Rattle.cells.specs.Operands.{bit_from, bits_from}
 use Rattle.cells.specs.Values.{cell_value}
 use Rattle.cells.proofs.Linking.{RunsAsk}
-use Rattle.placing.specs.Placing.{no_cell, cell_at, reads_of, output_from, outputs_from, apart, placing_of, ringed}
+use Rattle.placing.specs.Placing.{no_cell, cell_at, reads_of, output_from, apart}
 use Rattle.placing.proofs.Sound.{Wide, wide_no_output, cell_runs_lem, cell_asks}
 use Rattle.assigning.specs.Rows.{width_in}
 use Rattle.assigning.proofs.Parts.{part_written, part_behind, part_before}
 use Rattle.evaluating.specs.Settled.{Setting, rule_of}
-use Rattle.evaluating.specs.Evaluation.{values_from, assigned, evaluation}
+use Rattle.evaluating.specs.Evaluation.{values_from}
 use Rattle.valuing.specs.Row.{cell_of, row_value}
 use Rattle.evaluating.specs.InTables.{settled_in}
-use Rattle.evaluating.proofs.Settles.{rule_value, all_placed_lem}
+use Rattle.evaluating.proofs.Settles.{rule_value}
 use Rattle.evaluating.proofs.Widths.{value_length}
 
 -- AN OPERAND READS ONLY THE BITS THAT A CELL HAS

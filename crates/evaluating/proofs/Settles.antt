@@ -3,18 +3,18 @@ use mathlib.Core.Path.{◌≡◌, refl, ap, ap₂, ◌∙◌, sym, subst}
 use mathlib.Core.Bool.{Bool, true, false, ◌||◌}
 use mathlib.Core.Logic.{⊎_elim}
 use mathlib.Core.List.{List, [], ◌∷◌, ◌++◌, map, reverse}
-use Prim.Native.Nat.{ℕ, zero, suc, ◌+◌, ◌<◌, ◌≤◌}
+use Prim.Native.Nat.{ℕ, suc, ◌<◌}
 use native.Mathlib.Omega.{arith}
-use native.Mathlib.Decide.{ℕ_discrete, dec_lt}
+use native.Mathlib.Decide.{dec_lt}
 use lib.Dec.{eqb}
 use lib.ListN.{length, get_or, length-map, get_or-eq_default}
 use Rattle.ground.specs.Choice.{pick}
 use Rattle.ground.specs.Lists.{updated, joined}
 use Rattle.ground.proofs.Bools.{bool_cases, never_both, or_true, or_false, or_left}
 use Rattle.ground.proofs.Families.{updated_same, updated_other}
-use Rattle.graph.specs.Graph.{mem, ready, place, order}
+use Rattle.graph.specs.Graph.{mem, place}
 use Rattle.graph.specs.Placing.{Placing, done, step}
-use Rattle.graph.proofs.Ready.{place_same, place_other, place_keeps, place_cases, ready_unplaced, ready_reads}
+use Rattle.graph.proofs.Ready.{place_keeps, place_cases, ready_unplaced, ready_reads}
 use Rattle.graph.proofs.Order.{order_placing, placing_marks}
 use Rattle.graph.proofs.Ring.{all_in}
 use Rattle.kinds.specs.Kinds.{input_kind, output_kind}
@@ -23,9 +23,9 @@ use Rattle.netlist.specs.Runs.{Bit, known, bit, operand_bits}
 use Rattle.netlist.specs.Rules.{widths_of, valid}
 use Rattle.cells.specs.Operands.{bit_from, bits_from}
 use Rattle.cells.specs.Values.{cell_value}
-use Rattle.cells.proofs.Linking.{Asks, AllAsk, RunsAsk, runs_ask}
+use Rattle.cells.proofs.Linking.{AllAsk, RunsAsk, runs_ask}
 use Rattle.placing.specs.Placing.{no_cell, cell_at, reads_of, output_from, outputs_from, apart, placing_of, ringed}
-use Rattle.placing.proofs.Sound.{Wide, wide_no_output, read_wide, cell_asks}
+use Rattle.placing.proofs.Sound.{Wide, wide_no_output, cell_asks}
 use Rattle.evaluating.specs.Settled.{Setting, rule_of, Settled}
 use Rattle.evaluating.specs.Evaluation.{values_from, assigned, evaluation}
 

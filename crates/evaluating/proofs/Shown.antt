@@ -1,17 +1,16 @@
 -- The evaluation by the words of good tables is the evaluation of the netlist that they show.
-use mathlib.Core.Path.{◌≡◌, refl, ap, ap₂, ◌∙◌, sym, subst}
-use mathlib.Core.Bool.{Bool, true, false, ◌||◌}
+use mathlib.Core.Path.{◌≡◌, refl, ap, ap₂, ◌∙◌, sym}
+use mathlib.Core.Bool.{Bool, true, false}
 use mathlib.Core.Logic.{⊎_elim}
 use mathlib.Core.List.{List, [], ◌∷◌, ◌++◌}
 use Prim.Native.Nat.{ℕ, zero, suc, ◌+◌, ◌*◌, ◌<◌, ◌≤◌}
 use native.Mathlib.Omega.{arith}
 use lib.Dec.{eqb}
 use lib.ListN.{length, get_or, take, drop, length-append, get_or-append}
-use lib.Seq.{sets}
 use Rattle.ground.specs.Choice.{pick}
 use Rattle.ground.specs.Lists.{total, joined}
 use Rattle.ground.specs.Regions.{zeros, over, part}
-use Rattle.ground.proofs.Bools.{bool_cases, never_both, and_true, or_true}
+use Rattle.ground.proofs.Bools.{never_both, and_true, or_true}
 use Rattle.ground.proofs.Lent.{sets_front}
 use Rattle.ground.proofs.Regions.{length_zeros}
 use Rattle.graph.proofs.Order.{order_placing}
@@ -31,10 +30,10 @@ use Rattle.assigning.specs.Rows.{width_in, input_in, rows_total, starts_from, as
 use Rattle.assigning.proofs.Laws.{total_last, starts_at, starts_length}
 use Rattle.assigning.proofs.Shown.{cells_length, cells_at, cells_front, cells_total}
 use Rattle.assigning.proofs.Places.{assigned_length, assigned_at}
-use Rattle.evaluating.specs.Settled.{Setting, rule_of}
+use Rattle.evaluating.specs.Settled.{Setting}
 use Rattle.evaluating.specs.Evaluation.{assigned, evaluation}
 use Rattle.valuing.specs.Row.{cell_of}
-use Rattle.evaluating.specs.InTables.{settled_in, outputs_in, starts_in, values_in, evaluation_in}
+use Rattle.evaluating.specs.InTables.{settled_in, outputs_in, starts_in, evaluation_in}
 use Rattle.evaluating.proofs.Settles.{all_placed_lem}
 use Rattle.evaluating.proofs.Held.{Held, held_same, output_same, values_held}
 

@@ -1,20 +1,19 @@
 -- Good tables have what the evaluation asks.
 use Prim.Native.Nat.{ℕ, zero, suc, ◌+◌, ◌*◌, ◌<◌, ◌≤◌}
-use Prim.Native.String.{String}
-use mathlib.Core.Path.{◌≡◌, refl, sym, ap, ◌∙◌, subst}
-use mathlib.Core.Bool.{Bool, true, false, ◌&&◌}
-use mathlib.Core.List.{List, [], ◌∷◌}
+use mathlib.Core.Path.{◌≡◌, refl, sym, ap, subst}
+use mathlib.Core.Bool.{true, ◌&&◌}
+use mathlib.Core.List.{List, ◌∷◌}
 use native.Mathlib.Omega.{arith}
 use lib.Dec.{eqb}
-use lib.ListN.{length, drop, get_or}
+use lib.ListN.{length, drop}
 use borrow.Author.Tests.{eqb-true}
 use Rattle.ground.proofs.Bools.{and_true}
 use Rattle.kinds.specs.Kinds.{Kind, wide, alike, all_alike, compared, mux, adc, output, kind_at}
 use Rattle.kinds.proofs.Widths.{Fits, wide_is, each_kind}
-use Rattle.netlist.specs.Netlist.{Run, Cell, Netlist, operand_width}
+use Rattle.netlist.specs.Netlist.{Run, Cell, operand_width}
 use Rattle.netlist.specs.Rules.{widths_of}
 use Rattle.netlist.specs.Tables.{Tables}
-use Rattle.netlist.specs.View.{cell_in, run_in, runs_in, pool_in, view}
+use Rattle.netlist.specs.View.{run_in, runs_in, pool_in, view}
 use Rattle.netlist.specs.Good.{good}
 use Rattle.netlist.proofs.Laying.{Long, valid_roomy}
 use Rattle.netlist.proofs.Lengths.{cell_fits}
@@ -23,7 +22,6 @@ use Rattle.placing.specs.Placing.{cell_at}
 use Rattle.placing.proofs.Sound.{valid_cell}
 use Rattle.assigning.specs.Rows.{width_in, input_in, rows_total}
 use Rattle.assigning.proofs.Laws.{input_narrow}
-use Rattle.valuing.specs.Row.{cell_of}
 use Rattle.valuing.specs.Row.{Narrow}
 use Rattle.evaluating.specs.Sound.{TableSound}
 use Rattle.evaluating.proofs.Shown.{is_valid, count_is, cell_is, widths_are, outputs_few}

@@ -1,19 +1,19 @@
 -- A cell's value has the cell's width.
-use mathlib.Core.Path.{◌≡◌, refl, ap, ◌∙◌, sym, subst}
-use mathlib.Core.Bool.{Bool, true, false, ◌&&◌, ◌||◌}
-use mathlib.Core.List.{List, [], ◌∷◌}
+use mathlib.Core.Path.{◌≡◌, refl, ◌∙◌, sym, subst}
+use mathlib.Core.Bool.{Bool, true, false, ◌&&◌}
+use mathlib.Core.List.{List}
 use Prim.Native.Nat.{ℕ, suc, ◌+◌, ◌<◌, ◌≤◌}
 use native.Mathlib.Omega.{arith}
 use lib.Dec.{eqb, leb}
 use lib.ListN.{length, get_or}
 use borrow.Author.Tests.{eqb-true, eqb-false, leb-true}
 use Rattle.ground.specs.Choice.{pick}
-use Rattle.ground.proofs.Bools.{bool_cases, and_true, or_false, fact}
-use Rattle.kinds.specs.Kinds.{wide, is_kind, kind_at, input_kind, output_kind, buf_kind, not_kind, and_kind, or_kind, xor_kind, mux_kind, adc_kind, eq_kind, ult_kind, slt_kind}
+use Rattle.ground.proofs.Bools.{and_true, or_false, fact}
+use Rattle.kinds.specs.Kinds.{wide, is_kind, kind_at, input_kind, output_kind, not_kind, and_kind, or_kind, xor_kind, mux_kind, adc_kind, eq_kind, ult_kind, slt_kind}
 use Rattle.kinds.proofs.Widths.{Fits}
 use Rattle.trit.specs.Trit.{and_of, or_of, xor_of}
 use Rattle.trit.proofs.Wide.{not_length, pairs_length, mux_length, adc_length}
-use Rattle.netlist.specs.Netlist.{Cell, Netlist, operand_width}
+use Rattle.netlist.specs.Netlist.{Netlist}
 use Rattle.netlist.specs.Rules.{widths_of, valid}
 use Rattle.netlist.proofs.Lengths.{cell_fits}
 use Rattle.cells.specs.Operands.{bits_from}

@@ -1,6 +1,5 @@
 // The evaluation of sound tables in their regions: 20, 23, 24, or the output bits.
 ghost use Rattle.std.specs.Prelude.{◌≡◌, ℕ, ◌<◌, ◌≤◌, length, take, get_or};
-ghost use Rattle.ground.specs.Refusals.{at, refusal};
 ghost use Rattle.ground.specs.Regions.{zeros};
 ghost use Rattle.loadlist.specs.Run.{assigns};
 ghost use Rattle.cells.specs.Held.{held_runs};
@@ -10,22 +9,14 @@ ghost use Rattle.evaluating.specs.InTables.{evaluation_in};
 ghost use Rattle.evaluating.specs.Sound.{TableSound};
 ghost use Rattle.evaluating.specs.Outcome.{made};
 ghost use Rattle.evaluating.specs.Answered.{Answers, Given};
-ghost use Rattle.evaluating.specs.declared.Evaluated.TheVariants as evaluated;
 
-use crate::Evaluated;
 use crate::settle::settle;
 use assigning::{copy_bits, count_inputs};
-use ground::{Place, Refusal};
+use checking::refused;
+use ground::Refusal;
 use ordering::order_rows;
 use placing::place;
 use pools::all_trits;
-
-pub(crate) fn refused(number: u8) -> Evaluated
-    ensures { result ≡ evaluated.Refused (refusal number (at 0)) }
-{
-    let place = Place { at: 0 };
-    Evaluated::Refused(Refusal { number, place })
-}
 
 // A byte for each input bit, none above 2.
 fn fits(cells: &[u32], n: usize, ins: &[u8]) -> bool
@@ -49,17 +40,17 @@ fn evaluate_placed(
     count: usize,
     ins: &[u8],
     outs: &mut [u8],
-) -> Evaluated
+) -> Result<usize, Refusal>
     requires { TableSound cells.now (held_runs runs.now trits.now) n × (count ≤ length order.now) × ((i : ℕ) → i < count → get_or order.now i 0 < n) × (length ins.now ≡ rows_total input_in n cells.now) }
     ensures { Given (evaluation_in cells.now (held_runs runs.now trits.now) n (take count order.now) ins.now) outs.old result outs.new }
 {
     let mut answer = [0u8; 4096];
     let k = settle(cells, runs, trits, n, order, count, ins, &mut answer);
     if outs.len() < k {
-        return refused(24);
+        return Err(refused(24));
     }
     copy_bits(&answer, 0, k, outs, 0);
-    Evaluated::Outputs(k)
+    Ok(k)
 }
 
 // A ring is refused before the assignment is looked at.
@@ -71,17 +62,17 @@ pub(crate) fn evaluate_tables(
     ins: &[u8],
     outs: &mut [u8],
     work: &mut [u32],
-) -> Evaluated
+) -> Result<usize, Refusal>
     requires { TableSound cells.now (held_runs runs.now trits.now) n × Inside cells.now runs.now n × (work.old ≡ zeros 8192) }
     ensures { Answers cells.now runs.now trits.now n ins.now outs.old work.old (made result outs.new work.new) }
 {
     let mut order = [0u32; 512];
     let placed = order_rows(cells, runs, n, &mut order, work);
     if placed.ring {
-        return refused(20);
+        return Err(refused(20));
     }
     if fits(cells, n, ins) {
         return evaluate_placed(cells, runs, trits, n, &order, placed.count, ins, outs);
     }
-    refused(23)
+    Err(refused(23))
 }

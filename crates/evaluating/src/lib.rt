@@ -11,20 +11,12 @@ ghost use Rattle.netlist.specs.Tables.{tables_in};
 ghost use Rattle.netlist.specs.Good.{good, netlist_in};
 ghost use Rattle.evaluating.specs.Outcome.{made, evaluated_of, evaluate_of};
 
-use checking::check_tables;
+use checking::{check_tables, is_short, refused};
 use clearing::clear_words;
-use good::{evaluate_tables, refused};
+use good::evaluate_tables;
 use ground::Refusal;
-use netlist::Checked;
 use pools::word_of;
 use regions::{cells_of, run_trits_of, runs_of};
-
-// The number of output bits given, or a refusal.
-#[derive(Clone, Copy)]
-pub enum Evaluated {
-    Outputs(usize),
-    Refused(Refusal),
-}
 
 // The evaluation of good tables, cut into their regions.
 fn evaluate_good(
@@ -34,7 +26,7 @@ fn evaluate_good(
     ins: &[u8],
     outs: &mut [u8],
     work: &mut [u32],
-) -> Evaluated
+) -> Result<usize, Refusal>
     requires { (26307 ≤ length rows.now) × (16384 ≤ length strings.now) × (393728 ≤ length bits.now) × (good (tables_in rows.now strings.now bits.now) ≡ true) × (work.old ≡ zeros 8192) }
     ensures { made result outs.new work.new ≡ evaluated_of (netlist_in rows.now strings.now bits.now) ins.now outs.old work.old }
 {
@@ -57,15 +49,13 @@ fn evaluate_in(
     ins: &[u8],
     outs: &mut [u8],
     work: &mut [u32],
-) -> Evaluated
+) -> Result<usize, Refusal>
     requires { (26307 ≤ length rows.now) × (16384 ≤ length strings.now) × (393728 ≤ length bits.now) × (length work.old ≡ 8192) }
     ensures { made result outs.new work.new ≡ evaluate_of rows.now strings.now bits.now ins.now outs.old work.old }
 {
     clear_words(work);
-    match check_tables(rows, strings, bits) {
-        Checked::Refused(g) => Evaluated::Refused(g),
-        Checked::Good => evaluate_good(rows, strings, bits, ins, outs, work),
-    }
+    check_tables(rows, strings, bits)?;
+    evaluate_good(rows, strings, bits, ins, outs, work)
 }
 
 // The evaluation: a byte for each output bit, or a refusal 1, 15, 20, 23 or 24.
@@ -76,20 +66,14 @@ pub fn evaluate(
     ins: &[u8],
     outs: &mut [u8],
     work: &mut [u32],
-) -> Evaluated
+) -> Result<usize, Refusal>
     ensures { made result outs.new work.new ≡ evaluate_of rows.now strings.now bits.now ins.now outs.old work.old }
 {
-    if rows.len() < 26307 {
-        return refused(1);
-    }
-    if strings.len() < 16384 {
-        return refused(1);
-    }
-    if bits.len() < 393728 {
-        return refused(1);
+    if is_short(rows, strings, bits) {
+        return Err(refused(1));
     }
     if work.len() < 8192 {
-        return refused(1);
+        return Err(refused(1));
     }
     evaluate_in(rows, strings, bits, ins, outs, &mut work[0..8192])
 }

@@ -24,11 +24,9 @@ fn work_out(
     requires { (count ≤ length order.now) × ((i : ℕ) → i < count → RowSound cells.now (held_runs runs.now trits.now) starts.now (get_or order.now i 0)) × (length values.old ≡ 4096) }
     ensures { values.new ≡ settled_in (take count order.now) cells.now (held_runs runs.now trits.now) starts.now values.old }
 {
-    let mut i: usize = 0;
-    while i < count {
+    for i in 0..count {
         let row = word_of(order, i);
         work_row(cells, runs, trits, starts, row, values);
-        i += 1;
     }
 }
 
@@ -46,10 +44,8 @@ fn give_outputs(
     ensures { Put answer.old 0 (outputs_in n cells.now (held_runs runs.now trits.now) (held_bits starts.now values.now)) result answer.new }
 {
     let mut at: usize = 0;
-    let mut i: usize = 0;
-    while i < n {
+    for i in 0..n {
         at = give_row(cells, runs, trits, starts, values, i, answer, at);
-        i += 1;
     }
     at
 }

@@ -1,4 +1,6 @@
 -- Declarations at the edges of their forms, computed: what is found, or the refusal with its place.
+use Rattle.form.specs.Form.{Form}
+use Rattle.std.specs.Prelude.{Ok, Err, Some, None}
 use Prim.Native.Nat.{ℕ}
 use Prim.Native.String.{String}
 use mathlib.Core.Path.{◌≡◌, refl}
@@ -16,8 +18,6 @@ use Rattle.form.specs.declared.Decl.{Decl}
 use Rattle.form.specs.declared.Decl.TheVariants as decl
 use Rattle.form.specs.declared.Payload.{Payload}
 use Rattle.form.specs.declared.Payload.TheVariants as payload
-use Rattle.form.specs.declared.Form.{Form}
-use Rattle.form.specs.declared.Form.TheVariants as form
 
 pub data Answer : Type 0 where
   found : ℕ → List ℕ → ℕ → Answer
@@ -40,9 +40,9 @@ told (decl.Io s w) = s.size ∷ w ∷ []
 told (decl.Cell w) = w.kind ∷ w.width ∷ w.a.width ∷ w.b.width ∷ w.c.width ∷ []
 
 abbrev answer_of : Form → Answer
-answer_of (form.Took d r) = found d.index (told d.decl) r.next.at
-answer_of (form.Refused g) = refused_at g.number g.place.at
-answer_of form.End = over
+answer_of (Ok (Some (d, r))) = found d.index (told d.decl) r.next.at
+answer_of (Err g) = refused_at g.number g.place.at
+answer_of (Ok None) = over
 
 pub record Case : Type 0 where
   pub text : String

@@ -68,22 +68,5 @@ pub struct Declared {
     pub decl: Decl,
 }
 
-// The next declaration with the moved reader, the end of the text, or a refusal with its place.
-#[derive(Clone, Copy)]
-pub enum Form {
-    Took(Declared, Reader),
-    End,
-    Refused(Refusal),
-}
-
-#[derive(Clone, Copy)]
-pub enum Linked {
-    Took(Ref, Reader),
-    Refused(Refusal),
-}
-
-#[derive(Clone, Copy)]
-pub enum Pointed {
-    Took(Point, Reader),
-    Refused(Refusal),
-}
+// A declaration by its form and the reader past it; nothing at the end of the text; or a refusal with its place.
+pub type Form = Result<Option<(Declared, Reader)>, Refusal>;

@@ -17,17 +17,6 @@ fn check_file<R: Env + Files + Input, O: Write, E: Write>(
     answer_file(rt, out, err, Job::Check, &path[..n], b"")
 }
 
-// The files that are not good, one more counted.
-fn counted(bad: usize, good: bool) -> usize {
-    if good {
-        return bad;
-    }
-    if bad < 1000000 {
-        return bad + 1;
-    }
-    bad
-}
-
 // The last line tells whoever looks at standard error alone that a file is not good.
 fn tell_bad<E: Write>(err: &mut E, bad: usize) -> io::Result<()> {
     if bad == 0 {
@@ -45,7 +34,9 @@ pub(crate) fn check_files<R: Env + Files + Input, O: Write, E: Write>(
 ) -> io::Result<()> {
     let mut bad: usize = 0;
     for i in 2..count {
-        bad = counted(bad, check_file(rt, out, err, i)?);
+        if !check_file(rt, out, err, i)? {
+            bad = bad.saturating_add(1);
+        }
     }
     tell_bad(err, bad)
 }

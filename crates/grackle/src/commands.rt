@@ -1,5 +1,5 @@
 // What the arguments ask for.
-use crate::arguments::{put_arg, same};
+use crate::arguments::put_arg;
 use answering::Job;
 use std::rt::Env;
 
@@ -10,43 +10,20 @@ pub enum Command {
     Of(Job),
 }
 
-// The subcommands that take a netlist alone.
-fn text_command(word: &[u8]) -> Command {
-    if same(word, b"print") {
-        return Command::Of(Job::Print);
-    }
-    if same(word, b"list") {
-        return Command::Of(Job::List);
-    }
-    if same(word, b"load") {
-        return Command::Of(Job::Load);
-    }
-    if same(word, b"names") {
-        return Command::Of(Job::Names);
-    }
-    if same(word, b"pads") {
-        return Command::Of(Job::Pads);
-    }
-    Command::Unknown
-}
-
 fn command_named(word: &[u8]) -> Command {
-    if same(word, b"check") {
-        return Command::Of(Job::Check);
+    match word {
+        b"check" => Command::Of(Job::Check),
+        b"print" => Command::Of(Job::Print),
+        b"list" => Command::Of(Job::List),
+        b"load" => Command::Of(Job::Load),
+        b"eval" => Command::Of(Job::Eval),
+        b"run" => Command::Of(Job::Run),
+        b"names" => Command::Of(Job::Names),
+        b"pads" => Command::Of(Job::Pads),
+        b"pad" => Command::Of(Job::Pad),
+        b"help" => Command::Help,
+        _ => Command::Unknown,
     }
-    if same(word, b"eval") {
-        return Command::Of(Job::Eval);
-    }
-    if same(word, b"run") {
-        return Command::Of(Job::Run);
-    }
-    if same(word, b"pad") {
-        return Command::Of(Job::Pad);
-    }
-    if same(word, b"help") {
-        return Command::Help;
-    }
-    text_command(word)
 }
 
 // The subcommand that an argument names.

@@ -1,90 +1,30 @@
 // A file, or standard input, read whole: as many bytes as there is room for, so that one too long is seen to be too long.
-ghost use Rattle.std.specs.Prelude.{◌<◌, ◌≤◌, length};
+ghost use Rattle.std.specs.Prelude.{◌≤◌, length, IfSome};
 
-use crate::arguments::same;
 use answering::{Job, answer, tell_unread};
-use std::io::{Read, Write};
+use filling::read_full;
+use std::io::Write;
 use std::rt::Files;
 use std::{fs, io, str};
 
-// Whether the file was read to its end or until the room was full, and how many bytes came.
-#[derive(Clone, Copy)]
-struct Taken {
-    whole: bool,
-    n: usize,
-}
-
-// One read behind the first n bytes: how many came, none at the end.
-fn read_more<R: Read>(from: &mut R, room: &mut [u8], n: usize) -> Taken {
-    let end = room.len();
-    if n < end {
-        return match from.read(&mut room[n..end]) {
-            Ok(more) => Taken {
-                whole: true,
-                n: more,
-            },
-            Err(_) => Taken { whole: false, n: 0 },
-        };
-    }
-    Taken { whole: true, n: 0 }
-}
-
-// The number of bytes after a read, never past the room.
-fn grown(n: usize, more: usize, most: usize) -> usize
-    requires { (n < most) × (0 < more) }
-    ensures { (n < result) × (result ≤ most) }
+// How many bytes of the file of a name stand at the front of the room; none where it cannot be read, as by a name that is no text. A read
+// that fails is told: a text cut off there might be a good one by chance.
+fn read_named<R: Files>(rt: &R, path: &[u8], room: &mut [u8]) -> Option<usize>
+    ensures { IfSome result (λ n. n ≤ length room.old) }
 {
-    if more < most - n {
-        return n + more;
-    }
-    most
+    let name = str::from_utf8(path).ok()?;
+    let mut file = fs::open(rt, name).ok()?;
+    read_full(&mut file, room).ok()
 }
 
-// A read that fails is told: a text cut off there might be a good one by chance.
-fn read_whole<R: Read>(from: &mut R, room: &mut [u8]) -> Taken
-    ensures { result.n ≤ length room.old }
+// The same; `-` names standard input.
+fn take_file<R: Files + Input>(rt: &R, path: &[u8], room: &mut [u8]) -> Option<usize>
+    ensures { IfSome result (λ n. n ≤ length room.old) }
 {
-    let mut n: usize = 0;
-    while n < room.len() {
-        let got = read_more(from, room, n);
-        let more = got.n;
-        if more == 0 {
-            let whole = got.whole;
-            return Taken { whole, n };
-        }
-        n = grown(n, more, room.len());
+    match path {
+        b"-" => read_full(&mut rt.reader(), room).ok(),
+        _ => read_named(rt, path, room),
     }
-    Taken { whole: true, n }
-}
-
-fn read_opened<R: Files>(rt: &R, name: &str, room: &mut [u8]) -> Taken
-    ensures { result.n ≤ length room.old }
-{
-    match fs::open(rt, name) {
-        Ok(mut file) => read_whole(&mut file, room),
-        Err(_) => Taken { whole: false, n: 0 },
-    }
-}
-
-// A name that is no text names no file.
-fn read_named<R: Files>(rt: &R, path: &[u8], room: &mut [u8]) -> Taken
-    ensures { result.n ≤ length room.old }
-{
-    match str::from_utf8(path) {
-        Ok(name) => read_opened(rt, name, room),
-        Err(_) => Taken { whole: false, n: 0 },
-    }
-}
-
-// The file of a name; `-` names standard input.
-fn take_file<R: Files + Input>(rt: &R, path: &[u8], room: &mut [u8]) -> Taken
-    ensures { result.n ≤ length room.old }
-{
-    if same(path, b"-") {
-        let mut from = rt.reader();
-        return read_whole(&mut from, room);
-    }
-    read_named(rt, path, room)
 }
 
 // A byte more than any text or list may have: what is too long is refused as such. Whether the file was read, taken and answered.
@@ -97,10 +37,8 @@ pub(crate) fn answer_file<R: Files + Input, O: Write, E: Write>(
     word: &[u8],
 ) -> io::Result<bool> {
     let mut room = [0u8; 65537];
-    let taken = take_file(rt, path, &mut room);
-    let n = taken.n;
-    if taken.whole {
-        return answer(out, err, job, path, &room[0..n], word);
+    match take_file(rt, path, &mut room) {
+        Some(n) => answer(out, err, job, path, &room[..n], word),
+        None => tell_unread(out, err, job, path),
     }
-    tell_unread(out, err, job, path)
 }

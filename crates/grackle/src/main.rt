@@ -46,81 +46,15 @@ fn serve_with<R: Env + Files + Input, O: Write, E: Write>(
     word: usize,
 ) -> io::Result<()> {
     let mut room = [0u8; 8193];
-    match rt.arg(word, &mut room) {
-        Ok(n) => serve(rt, out, err, job, file, &room[..n]),
-        Err(FillError::TooLong) => serve(rt, out, err, job, file, &room),
-        Err(FillError::NotPresent) => serve(rt, out, err, job, file, b""),
-    }
+    let n = match rt.arg(word, &mut room) {
+        Ok(n) => n,
+        Err(FillError::TooLong) => 8193,
+        Err(FillError::NotPresent) => 0,
+    };
+    serve(rt, out, err, job, file, &room[..n])
 }
 
-// `eval` with `--bits`, before the file or behind the bits.
-fn serve_option<R: Env + Files + Input, O: Write, E: Write>(
-    rt: &R,
-    out: &mut O,
-    err: &mut E,
-) -> io::Result<()> {
-    if is_option(rt, 2) {
-        return serve_with(rt, out, err, Job::EvalBits, 3, 4);
-    }
-    if is_option(rt, 4) {
-        return serve_with(rt, out, err, Job::EvalBits, 2, 3);
-    }
-    tell_usage(err, Job::Eval)
-}
-
-fn serve_eval<R: Env + Files + Input, O: Write, E: Write>(
-    rt: &R,
-    out: &mut O,
-    err: &mut E,
-    count: usize,
-) -> io::Result<()> {
-    if count == 4 {
-        return serve_with(rt, out, err, Job::Eval, 2, 3);
-    }
-    if count == 5 {
-        return serve_option(rt, out, err);
-    }
-    tell_usage(err, Job::Eval)
-}
-
-fn serve_two<R: Env + Files + Input, O: Write, E: Write>(
-    rt: &R,
-    out: &mut O,
-    err: &mut E,
-    job: Job,
-    count: usize,
-) -> io::Result<()> {
-    if count == 4 {
-        return serve_with(rt, out, err, job, 2, 3);
-    }
-    tell_usage(err, job)
-}
-
-fn serve_one<R: Env + Files + Input, O: Write, E: Write>(
-    rt: &R,
-    out: &mut O,
-    err: &mut E,
-    job: Job,
-    count: usize,
-) -> io::Result<()> {
-    if count == 3 {
-        return serve(rt, out, err, job, 2, b"");
-    }
-    tell_usage(err, job)
-}
-
-fn serve_check<R: Env + Files + Input, O: Write, E: Write>(
-    rt: &R,
-    out: &mut O,
-    err: &mut E,
-    count: usize,
-) -> io::Result<()> {
-    if 3 <= count {
-        return check_files(rt, out, err, count);
-    }
-    tell_usage(err, Job::Check)
-}
-
+// What is asked, by the number of arguments; `eval` takes `--bits` before the file or behind the bits.
 fn serve_job<R: Env + Files + Input, O: Write, E: Write>(
     rt: &R,
     out: &mut O,
@@ -128,12 +62,14 @@ fn serve_job<R: Env + Files + Input, O: Write, E: Write>(
     job: Job,
     count: usize,
 ) -> io::Result<()> {
-    match job {
-        Job::Check => serve_check(rt, out, err, count),
-        Job::Eval => serve_eval(rt, out, err, count),
-        Job::Run => serve_two(rt, out, err, job, count),
-        Job::Pad => serve_two(rt, out, err, job, count),
-        _ => serve_one(rt, out, err, job, count),
+    match (job, count) {
+        (Job::Check, 3..) => check_files(rt, out, err, count),
+        (Job::Eval | Job::Run | Job::Pad, 4) => serve_with(rt, out, err, job, 2, 3),
+        (Job::Eval, 5) if is_option(rt, 2) => serve_with(rt, out, err, Job::EvalBits, 3, 4),
+        (Job::Eval, 5) if is_option(rt, 4) => serve_with(rt, out, err, Job::EvalBits, 2, 3),
+        (Job::Check | Job::Eval | Job::Run | Job::Pad, _) => tell_usage(err, job),
+        (_, 3) => serve(rt, out, err, job, 2, b""),
+        _ => tell_usage(err, job),
     }
 }
 

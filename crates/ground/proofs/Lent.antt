@@ -1,10 +1,10 @@
 -- A lent slice whose first words are written over: cleared word by word, or handed on as its front.
-use mathlib.Core.Path.{◌≡◌, refl, ap, ◌∙◌}
-use mathlib.Core.List.{List, ◌++◌, append-nil}
-use Prim.Native.Nat.{ℕ, ◌+◌, ◌-◌, ◌<◌, ◌≤◌}
+use mathlib.Core.Path.{◌≡◌, refl, ap, ap₂, ◌∙◌}
+use mathlib.Core.List.{List, [], ◌∷◌, ◌++◌, append-nil}
+use Prim.Native.Nat.{ℕ, suc, ◌+◌, ◌-◌, ◌<◌, ◌≤◌}
 use native.Mathlib.Nat.{zero-add}
 use native.Mathlib.Omega.{arith}
-use lib.ListN.{length, take, drop, set, length-take}
+use lib.ListN.{length, take, drop, get_or, set, length-take}
 use lib.Seq.{sets, sets-eq}
 use borrow.Author.Fill.{fill_more}
 use Rattle.ground.specs.Regions.{zeros, pad, over}
@@ -43,3 +43,9 @@ unfolding over
 sets_front old xs h =
     let l : 0 + length xs ≤ length old = omega arith in
     sets-eq xs old 0 l ∙ ap (λ (n : ℕ). xs ++ drop n old) (zero-add (length xs))
+
+-- a list of nothing but zeros
+pub each_zero : (xs : List ℕ) → ((k : ℕ) → k < length xs → get_or xs k 0 ≡ 0) → xs ≡ zeros (length xs)
+unfolding zeros
+each_zero [] h = refl
+each_zero (x ∷ xs) h = ap₂ ◌∷◌ (h 0 (omega arith)) (each_zero xs (λ k l. h (suc k) (omega arith)))

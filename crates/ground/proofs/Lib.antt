@@ -9,3 +9,4 @@ pub mod Same
 pub mod Tables
 pub mod Tests
 pub mod Writes
+pub mod Pairs

@@ -4,6 +4,7 @@ use mathlib.Core.Bool.{Bool, true, false}
 use mathlib.Core.List.{List, [], ◌∷◌}
 use Prim.Native.Nat.{ℕ, suc, ◌+◌, ◌<◌, ◌≤◌}
 use lib.Dec.{eqb}
+use lib.Pointwise.{pointwise}
 use lib.ListN.{length, drop, get_or}
 use borrow.Author.Tests.{eq-eqb, ne_eqb, eqb-true, eqb-false}
 use Rattle.ground.specs.Text.{same}
@@ -41,3 +42,11 @@ same_turned (x ∷ xs) [] = refl
 same_turned (x ∷ xs) (y ∷ ys) = bool_cases (eqb x y)
     (λ e. let f : eqb y x ≡ true = eq-eqb y x (sym (eqb-true x y e)) in rw (e, same, f, same) (same_turned xs ys))
     (λ e. let f : eqb y x ≡ false = ne_eqb y x (λ z. eqb-false x y e (sym z)) in rw (e, same, f, same) refl)
+
+-- slices compared by `==`
+pub same_pointwise : (a b : List ℕ) → pointwise eqb a b ≡ same a b
+unfolding same
+same_pointwise [] [] = refl
+same_pointwise [] (y ∷ ys) = refl
+same_pointwise (x ∷ xs) [] = refl
+same_pointwise (x ∷ xs) (y ∷ ys) = bool_cases (eqb x y) (λ e. rw (same, e) (same_pointwise xs ys)) (λ e. rw (same, e))

@@ -3,13 +3,13 @@
 #![tactic(auto)]
 
 // A place in a text or a list: the number of bytes before it.
-#[derive(Clone, Copy)]
+#[derive(Clone, Copy, PartialEq, Eq)]
 pub struct Place {
     pub at: usize,
 }
 
 // A refusal: document 01's number, and the place.
-#[derive(Clone, Copy)]
+#[derive(Clone, Copy, PartialEq, Eq)]
 pub struct Refusal {
     pub number: u8,
     pub place: Place,

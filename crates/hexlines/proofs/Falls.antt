@@ -1,11 +1,9 @@
 -- Fewer records are left at the moved reader.
-use mathlib.Core.Path.{◌≡◌, ap, sym, ◌∙◌}
-use mathlib.Core.Bool.{Bool, true}
-use mathlib.Core.List.{List}
-use Prim.Native.Nat.{ℕ, ◌+◌, ◌-◌, ◌<◌}
+use mathlib.Core.Path.{◌≡◌}
+use mathlib.Core.Bool.{true}
+use Prim.Native.Nat.{ℕ, ◌-◌, ◌<◌}
 use native.Mathlib.Omega.{arith}
 use borrow.Author.Tests.{ltb-true}
-use Rattle.ground.specs.Choice.{pick}
 use Rattle.loadlist.specs.Check.{record_count}
 use Rattle.records.specs.Reader.{is_left, moved}
 use Rattle.records.specs.declared.Records.{Records}

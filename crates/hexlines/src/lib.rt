@@ -33,35 +33,21 @@ fn low(x: u8) -> u8
     digit(x % 16)
 }
 
-fn low_byte(x: u16) -> u8
-    ensures { result ≡ x % 256 }
-{
-    (x % 256) as u8
-}
-
-fn high_byte(x: u16) -> u8
-    ensures { result ≡ x / 256 }
-{
-    (x / 256) as u8
-}
-
 // The eight bytes of a record in hex, then LF.
 pub fn line_of(r: Record) -> [u8; 17]
     ensures { result ≡ line_of r }
 {
-    let a = low_byte(r.first);
-    let b = high_byte(r.first);
-    let c = low_byte(r.second);
-    let d = high_byte(r.second);
+    let [a, b] = r.first.to_le_bytes();
+    let [c, d] = r.second.to_le_bytes();
     [
-        52,
-        55,
-        53,
-        51,
+        b'4',
+        b'7',
+        b'5',
+        b'3',
         high(r.op),
         low(r.op),
-        48,
-        48,
+        b'0',
+        b'0',
         high(a),
         low(a),
         high(b),
@@ -70,21 +56,15 @@ pub fn line_of(r: Record) -> [u8; 17]
         low(c),
         high(d),
         low(d),
-        10,
+        b'\n',
     ]
-}
-
-fn tell_record<W: Write>(to: &mut W, r: Record) -> io::Result<()> {
-    let line = line_of(r);
-    to.write_all(&line)
 }
 
 // The records of a list, a line each.
 pub fn tell_list<W: Write>(to: &mut W, list: &[u8]) -> io::Result<()> {
     let mut reader = first(list);
     while is_left(reader) {
-        let r = record_of(reader);
-        tell_record(to, r)?;
+        to.write_all(&line_of(record_of(reader)))?;
         reader = moved(reader);
     }
     Ok(())

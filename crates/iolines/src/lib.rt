@@ -31,11 +31,9 @@ pub fn put_ios(room: &mut [u8], n: usize, rows: &[u32], count: u32, strings: &[u
     ensures { Wrote room.old n (io_lines (ios_in (pools strings.now [] []) count rows.now)) room.new result }
 {
     let mut n = n;
-    let mut i: u32 = 0;
-    while i < count {
+    for i in 0..count {
         let k = wide(i) * 3;
         n = put_io(room, n, &rows[k..k + 3], strings);
-        i += 1;
     }
     n
 }

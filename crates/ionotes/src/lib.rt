@@ -13,9 +13,9 @@ ghost use Rattle.noting.specs.Formed.{StrIn};
 ghost use Rattle.noting.specs.Rulings.{ruling_of, io_more, io_in, io_limits, io_rules, io_declared, io_tally, IoRoom, SomeNoted};
 
 use brackets::Str;
-use ground::Place;
+use ground::{Place, Refusal};
 use kinds::wide;
-use noting::{Noting, Ruling, Tally, refuse};
+use noting::{Tally, refuse};
 use taken::io_taken;
 
 // Whether one I/O row more, with a name of `size` bytes, passes a limit of Room.
@@ -33,7 +33,7 @@ fn io_cramped(n: Tally, size: usize) -> bool
 }
 
 // Rules 11 to 13 for an I/O declaration.
-fn io_limits(place: Place, name: Str, width: u32, n: Tally) -> Ruling
+fn io_limits(place: Place, name: Str, width: u32, n: Tally) -> Result<(), Refusal>
     requires { n.strings ≤ 16384 }
     ensures { (text : List ℕ) (N : Netlist) → StrIn text name → Tallied N n → result ≡ ruling_of (io_limits N (io_in text name width) place) }
 {
@@ -45,7 +45,7 @@ fn io_limits(place: Place, name: Str, width: u32, n: Tally) -> Ruling
         if io_cramped(n, size) {
             return refuse(13, place);
         }
-        return Ruling::Passed;
+        return Ok(());
     }
     refuse(12, place)
 }
@@ -59,7 +59,7 @@ fn io_ruled(
     ios: &[u32],
     n: Tally,
     fresh: bool,
-) -> Ruling
+) -> Result<(), Refusal>
     requires { (n.strings ≤ 16384) × IosNoted text.now ios.now n.ios × StrIn text.now name × FreshIo text.now ios.now n.ios name.from name.size fresh }
     ensures { (N : Netlist) → IosHeld text.now N.ios ios.now → Tallied N n → result ≡ ruling_of (io_rules N (io_in text.now name width) place) }
 {
@@ -119,15 +119,11 @@ pub fn note_io(
     rows: &mut [u32],
     n: Tally,
     fresh: bool,
-) -> Noting
+) -> Result<Tally, Refusal>
     requires { (length text.now ≤ 65536) × SomeNoted text.now n rows.old × StrIn text.now name × FreshIo text.now (ios_in rows.old) n.ios name.from name.size fresh }
     ensures { (bits work : List ℕ) (so : Sofar) (index : ℕ) → Noted text.now so n rows.old bits work → After text.now so (io_declared place index name width) result rows.new bits work }
 {
-    match io_ruled(text, place, name, width, &rows[9219..9411], n, fresh) {
-        Ruling::Refused(g) => Noting::Refused(g),
-        Ruling::Passed => {
-            let more = add_io(name, width, &mut rows[9219..9411], n);
-            Noting::More(more)
-        }
-    }
+    io_ruled(text, place, name, width, &rows[9219..9411], n, fresh)?;
+    let more = add_io(name, width, &mut rows[9219..9411], n);
+    Ok(more)
 }

@@ -1,4 +1,4 @@
--- How much of a text a word may take, and how a word is looked up in a list.
+-- How a word is looked up in a list.
 -- Assumes nothing.
 use mathlib.Core.Path.{◌≡◌, refl, sym, ◌∙◌}
 use mathlib.Core.Bool.{Bool, true, false}
@@ -11,14 +11,6 @@ use lib.Seq.{take_all, take-nil}
 use Rattle.ground.specs.Text.{bytes, same}
 use Rattle.ground.proofs.Rest.{rest_end}
 use Rattle.brackets.specs.Words.{numbered}
-
--- a run past the end of the text, and one that the text's end cuts short
-pub run_none : (s : List ℕ) (from size : ℕ) → length s < from → [] ≡ take size (drop from s)
-run_none s from size h = sym (rw (rest_end s from (omega arith)) (take-nil size))
-
-pub run_short : (s : List ℕ) (from size : ℕ) → length s - from < size → take (length s - from) (drop from s) ≡ take size (drop from s)
-run_short s from size h =
-    take_all (length s - from) (drop from s) (simp length-drop (omega arith)) ∙ sym (take_all size (drop from s) (simp length-drop (omega arith)))
 
 -- the first word of a list is the one, or it is looked for behind it
 module _ (ls : List ℕ) (w : String) (ws : List String) (n : ℕ) {r : Bool} (e : r ≡ same ls (bytes w)) where

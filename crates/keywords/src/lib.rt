@@ -8,29 +8,17 @@ ghost use Rattle.brackets.specs.Words.{is_sort, is_mark, is_spelled, numbered, k
 
 use comparing::same_bytes;
 use lexis::Token;
-
-// At most `size` bytes of the text, from a place on.
-fn run_at(text: &[u8], from: usize, size: usize) -> &[u8]
-    ensures { result.now ≡ take size (drop from text.now) }
-{
-    if text.len() < from {
-        return &text[0..0];
-    }
-    if text.len() - from < size {
-        return &text[from..];
-    }
-    let end = from + size;
-    &text[from..end]
-}
+use regions::part_at;
 
 // A word of these letters.
+#[tactic(auto, unfolding(ground::specs::Regions::part))]
 pub fn is_word(text: &[u8], token: Token, word: &[u8]) -> bool
     ensures { result ≡ is_spelled text.now word.now token }
 {
     let from = token.from;
     let size = token.size;
     if token.sort == 3 {
-        return same_bytes(run_at(text, from, size), word);
+        return same_bytes(part_at(text, from, size), word);
     }
     false
 }
@@ -101,13 +89,14 @@ fn keyword(w: &[u8]) -> u8
 }
 
 // The kind that a token in the keyword's place names; 0 where it names none.
+#[tactic(auto, unfolding(ground::specs::Regions::part))]
 pub fn kind_of(text: &[u8], token: Token) -> u8
     ensures { result ≡ kind_of text.now token }
 {
     let from = token.from;
     let size = token.size;
     if token.sort == 3 {
-        return keyword(run_at(text, from, size));
+        return keyword(part_at(text, from, size));
     }
     0
 }

@@ -1,4 +1,5 @@
 -- READING ACCEPTS EXACTLY THE LANGUAGE: a text says a netlist where its declarations stand and keep every rule, and nowhere else.
+use Rattle.std.specs.Prelude.{Result, Ok, Err}
 use mathlib.Core.Path.{◌≡◌, refl, ap}
 use mathlib.Core.List.{List}
 use mathlib.Core.Option.{Option, none, some}
@@ -8,8 +9,6 @@ use lib.ListN.{length}
 use Rattle.ground.specs.declared.Place.{Place}
 use Rattle.ground.specs.declared.Refusal.{Refusal}
 use Rattle.scanning.specs.Whole.{whole_of}
-use Rattle.scanning.specs.declared.Whole.{Whole}
-use Rattle.scanning.specs.declared.Whole.TheVariants as whole
 use Rattle.netlist.specs.Netlist.{Netlist}
 use Rattle.netlist.specs.Rules.{widths_of}
 use Rattle.saying.specs.Pieces.{first_unresolved}
@@ -46,7 +45,7 @@ netlist_in old (says N) = N
 netlist_in old (refused g) = old
 
 -- with every piece resolved
-resolved_says : (text : List ℕ) (N : Netlist) → whole_of text ≡ whole.Sound → (so : Sofar) → Stood text 0 nothing so → (x : Option Place) → first_lost so ≡ x → resolved so x ≡ says N → Says text N
+resolved_says : (text : List ℕ) (N : Netlist) → whole_of text ≡ Ok tt → (so : Sofar) → Stood text 0 nothing so → (x : Option Place) → first_lost so ≡ x → resolved so x ≡ says N → Says text N
 resolved_says text N sound so s (some p) f e = never_says _ N e
 resolved_says text N sound so s none f e =
     let same = s.said in
@@ -68,7 +67,7 @@ resolved_says text N sound so s none f e =
     }
 
 -- with every declaration taken
-declared_says : (text : List ℕ) (N : Netlist) → whole_of text ≡ whole.Sound → (ds : Declarations) → declarations_from (suc (length text)) text 0 nothing ≡ ds → declared ds ≡ says N → Says text N
+declared_says : (text : List ℕ) (N : Netlist) → whole_of text ≡ Ok tt → (ds : Declarations) → declarations_from (suc (length text)) text 0 nothing ≡ ds → declared ds ≡ says N → Says text N
 declared_says text N sound (stopped g) f e = never_says g N e
 declared_says text N sound (all so) f e = resolved_says text N sound so (all_stood text (sound_bytes text sound) so f) (first_lost so) refl e
 
@@ -77,6 +76,6 @@ pub read_says : (text : List ℕ) (N : Netlist) → reading text ≡ says N → 
 unfolding reading read_sound
 read_says text N e = go (whole_of text) refl
   where
-    go : (w : Whole) → whole_of text ≡ w → Says text N
-    go whole.Sound f = declared_says text N f (declarations_from (suc (length text)) text 0 nothing) refl (rw f at e)
-    go (whole.Unsound g) f = never_says g N (rw f at e)
+    go : (w : Result (Unit {0}) Refusal) → whole_of text ≡ w → Says text N
+    go (Ok tt) f = declared_says text N f (declarations_from (suc (length text)) text 0 nothing) refl (rw f at e)
+    go (Err g) f = never_says g N (rw f at e)

@@ -1,4 +1,6 @@
 -- Every token moves the reader on or leaves it where it is, and a line end takes a byte at least.
+use Rattle.lexis.specs.Took.{Took}
+use Rattle.std.specs.Prelude.{Ok, Err, Option, Some, None}
 use mathlib.Core.Path.{◌≡◌, refl}
 use mathlib.Core.Bool.{Bool, true, false, not, ◌&&◌, ◌||◌}
 use mathlib.Core.List.{List, [], ◌∷◌}
@@ -13,12 +15,8 @@ use Rattle.signs.specs.Bytes.{class_of, within, is_white, is_constant, is_letter
 use Rattle.signs.specs.Pieces.{span_end, comment_end, inside_end, digits_from, numeral_at, suffix_at, Str, whole, broken, prefixed, string_from, sized, string_at, quoted_at}
 use Rattle.lexis.specs.Tokens.{refused, judged, single, signed_of, opens_placeholder, follows, constant_of, cell_of, named_from, io_of, string_step, number_of, meta_of, word_of, long_of, token_from, token_at, inside_at, line_end, number, meta, placeholder}
 use Rattle.lexis.specs.declared.Token.{Token}
-use Rattle.lexis.specs.declared.Step.{Step}
-use Rattle.lexis.specs.declared.Step.TheVariants as step
 use Rattle.signs.specs.declared.pieces.Numeral.{Numeral}
 use Rattle.signs.specs.declared.pieces.Suffix.{Suffix}
-use Rattle.signs.specs.declared.pieces.Quoted.{Quoted}
-use Rattle.signs.specs.declared.pieces.Quoted.TheVariants.{Closed, Malformed}
 use Rattle.brackets.specs.Words.{is_sort}
 use Rattle.saying.proofs.Tokens.{Nothing}
 
@@ -83,9 +81,9 @@ string_on (b ∷ s) zero k = bool_cases (eqb b 34)
     (λ g. rw (e, f, g, string_from) (closes_on b k (string_from s 0 (k + 1)) (string_on s 0 (k + 1))))
     (λ g. rw (e, f, g, string_from) refl)))
 
-abbrev Quotes : ℕ → Quoted → Type 0
-Quotes k (Closed n e) = k ≤ e
-Quotes k Malformed = Nothing
+abbrev Quotes : ℕ → Option (ℕ × ℕ) → Type 0
+Quotes k (Some (n, e)) = k ≤ e
+Quotes k None = Nothing
 
 quoted_on : (text : List ℕ) (k : ℕ) → Quotes k (quoted_at text k)
 unfolding quoted_at
@@ -100,14 +98,14 @@ pub record Moved (k : ℕ) (t : Token) (n : ℕ) : Type 0 where
   pub on : k ≤ n
   pub past : is_sort line_end t ≡ true → k < n
 
-abbrev pub Moves : ℕ → Step → Type 0
-Moves k (step.Refused g) = Nothing
-Moves k (step.Took t r) = Moved k t r.next.at
+abbrev pub Moves : ℕ → Took Token → Type 0
+Moves k (Err g) = Nothing
+Moves k (Ok (t, r)) = Moved k t r.next.at
 
 -- what moves on from a place moves on from those before it
-pub moves_from : (j k : ℕ) (s : Step) → j ≤ k → Moves k s → Moves j s
-moves_from j k (step.Refused g) l h = refl
-moves_from j k (step.Took t r) l h = record { on = omega (arith, h.on); past = λ e. omega (arith, h.past e) }
+pub moves_from : (j k : ℕ) (s : Took Token) → j ≤ k → Moves k s → Moves j s
+moves_from j k (Err g) l h = refl
+moves_from j k (Ok (t, r)) l h = record { on = omega (arith, h.on); past = λ e. omega (arith, h.past e) }
 
 -- a token that is no line end
 other : (k : ℕ) (t : Token) (n : ℕ) → is_sort line_end t ≡ false → k ≤ n → Moved k t n
@@ -117,10 +115,10 @@ line : (k : ℕ) (t : Token) (n : ℕ) → k < n → Moved k t n
 line k t n h = record { on = omega arith; past = λ p. h }
 
 module _ (k : ℕ) where
-  either : (b : Bool) (x y : Step) → Moves k x → Moves k y → Moves k (pick b x y)
+  either : (b : Bool) (x y : Took Token) → Moves k x → Moves k y → Moves k (pick b x y)
   either b x y p q = picked (Moves k) b x y p q
 
-  judged_moves : (malformed large : Bool) (s : Step) → Moves k s → Moves k (judged malformed large k s)
+  judged_moves : (malformed large : Bool) (s : Took Token) → Moves k s → Moves k (judged malformed large k s)
   judged_moves m l s n = either m (refused 5 k) (pick l (refused 6 k) s) refl (either l (refused 6 k) s refl n)
 
   single_moves : (sort from : ℕ) (i : Numeral) (value end : ℕ) → eqb sort line_end ≡ false → k ≤ end → Moves k (single sort k from i value end)
@@ -148,15 +146,15 @@ module _ (text : List ℕ) (k : ℕ) where
       either k (opens_placeholder text i.end) _ _ (single_moves k placeholder (k + 1) i i.value (i.end + 2) refl (omega arith))
       (judged_moves k (eqb i.end (k + 1) || (o.broken || (w.broken || c.broken))) (i.large || (o.large || (w.large || c.large))) _ (other k _ c.end refl (omega arith)))
 
-  named_moves : (q : Quoted) → Quotes (k + 2) q → Moves k (named_from text k q)
-  named_moves (Closed n e) h =
+  named_moves : (q : Option (ℕ × ℕ)) → Quotes (k + 2) q → Moves k (named_from text k q)
+  named_moves (Some (n, e)) h =
       let o = suffix_at text 43 e in
       let w = suffix_at text 58 e in
       let ho = suffix_on text 43 e in
       let hw = suffix_on text 58 e in
       let end : k ≤ pick o.given o.end w.end = picked (λ (n : ℕ). k ≤ n) o.given o.end w.end (omega arith) (omega arith) in
       judged_moves k (o.broken || w.broken) (o.large || w.large) _ (other k _ _ refl end)
-  named_moves Malformed h = refl
+  named_moves None h = refl
 
   io_moves : Moves k (io_of text k)
   unfolding io_of
@@ -175,9 +173,9 @@ module _ (text : List ℕ) (k : ℕ) where
       either k (eqb (get_or text (k + 1) 0) 45) _ _ (single_moves k number (k + 2) m (signed_of true m.value) m.end refl (omega arith))
       (single_moves k number (k + 1) i (signed_of false i.value) i.end refl (omega arith))
 
-  string_moves : (q : Quoted) → Quotes (k + 1) q → Moves k (string_step k q)
-  string_moves (Closed n e) h = other k _ e refl (omega arith)
-  string_moves Malformed h = refl
+  string_moves : (q : Option (ℕ × ℕ)) → Quotes (k + 1) q → Moves k (string_step k q)
+  string_moves (Some (n, e)) h = other k _ e refl (omega arith)
+  string_moves None h = refl
 
   long_moves : (b : ℕ) → Moves k (long_of text k b)
   unfolding long_of word_of meta_of

@@ -1,4 +1,8 @@
 -- The parts of a declaration never go back: sets, operands, references and points end where they begin or behind.
+use Rattle.brackets.specs.declared.Ref.{Ref}
+use Rattle.brackets.specs.declared.Operand.{Operand}
+use Rattle.lexis.specs.Took.{Took, after}
+use Rattle.std.specs.Prelude.{Ok, Err}
 use mathlib.Core.Path.{◌≡◌, refl}
 use mathlib.Core.Bool.{Bool, true, false}
 use mathlib.Core.List.{List}
@@ -8,54 +12,44 @@ use Rattle.ground.proofs.Bools.{bool_cases}
 use Rattle.kinds.proofs.Widths.{picked}
 use Rattle.lexis.specs.Tokens.{token_at, inside_at, number, meta}
 use Rattle.lexis.specs.declared.Token.{Token}
-use Rattle.lexis.specs.declared.Step.{Step}
-use Rattle.lexis.specs.declared.Step.TheVariants as step
 use Rattle.brackets.specs.Words.{is_sort, is_mark, is_spelled}
 use Rattle.brackets.specs.Parts.{is_part, part_of, part_width, next_part, concat_from, concat_at, closed_operand, operand_from, operand_at, next_member, set_from}
-use Rattle.form.specs.Forms.{only, mark_at, to_point, closed_point, point_at, link_of, link_from, link_at, option_from, option_at, operand_if, meta_from, meta_if}
+use Rattle.form.specs.Forms.{only, mark_at, closed_point, point_at, link_of, link_from, link_at, option_from, option_at, operand_if, meta_from, meta_if}
 use Rattle.form.specs.declared.Point.{Point}
-use Rattle.brackets.specs.declared.Measured.{Measured}
-use Rattle.brackets.specs.declared.Measured.TheVariants as measured
-use Rattle.brackets.specs.declared.Taken.{Taken}
-use Rattle.brackets.specs.declared.Taken.TheVariants as taken
-use Rattle.form.specs.declared.Pointed.{Pointed}
-use Rattle.form.specs.declared.Pointed.TheVariants as pointed
-use Rattle.form.specs.declared.Linked.{Linked}
-use Rattle.form.specs.declared.Linked.TheVariants as linked
 use Rattle.saying.proofs.Tokens.{Nothing}
 use Rattle.language.proofs.Moves.{Moves, moves_from, token_moves, inside_moves}
 
 -- what is read from the place k on ends there or behind
-abbrev pub StepOn : ℕ → Step → Type 0
-StepOn k (step.Took t r) = k ≤ r.next.at
-StepOn k (step.Refused g) = Nothing
+abbrev pub StepOn : ℕ → Took Token → Type 0
+StepOn k (Ok (t, r)) = k ≤ r.next.at
+StepOn k (Err g) = Nothing
 
-abbrev pub MeasureOn : ℕ → Measured → Type 0
-MeasureOn k (measured.Closed n r) = k ≤ r.next.at
-MeasureOn k (measured.Refused g) = Nothing
+abbrev pub MeasureOn : ℕ → Took ℕ → Type 0
+MeasureOn k (Ok (n, r)) = k ≤ r.next.at
+MeasureOn k (Err g) = Nothing
 
-abbrev pub OperandOn : ℕ → Taken → Type 0
-OperandOn k (taken.Took o r) = k ≤ r.next.at
-OperandOn k (taken.Refused g) = Nothing
+abbrev pub OperandOn : ℕ → Took Operand → Type 0
+OperandOn k (Ok (o, r)) = k ≤ r.next.at
+OperandOn k (Err g) = Nothing
 
-abbrev pub LinkOn : ℕ → Linked → Type 0
-LinkOn k (linked.Took f r) = k ≤ r.next.at
-LinkOn k (linked.Refused g) = Nothing
+abbrev pub LinkOn : ℕ → Took Ref → Type 0
+LinkOn k (Ok (f, r)) = k ≤ r.next.at
+LinkOn k (Err g) = Nothing
 
-abbrev pub PointOn : ℕ → Pointed → Type 0
-PointOn k (pointed.Took p r) = k ≤ r.next.at
-PointOn k (pointed.Refused g) = Nothing
+abbrev pub PointOn : ℕ → Took Point → Type 0
+PointOn k (Ok (p, r)) = k ≤ r.next.at
+PointOn k (Err g) = Nothing
 
 module _ (text : List ℕ) (k : ℕ) where
   -- A TOKEN from a place behind k on
-  step_on : (s : Step) → Moves k s → StepOn k s
-  step_on (step.Took t r) h = h.on
-  step_on (step.Refused g) h = refl
+  step_on : (s : Took Token) → Moves k s → StepOn k s
+  step_on (Ok (t, r)) h = h.on
+  step_on (Err g) h = refl
 
   -- a token that passes a test
-  pub only_on : (p : Token → Bool) (s : Step) → StepOn k s → StepOn k (only p s)
-  only_on p (step.Took t r) h = picked (StepOn k) (p t) _ _ h refl
-  only_on p (step.Refused g) h = refl
+  pub only_on : (p : Token → Bool) (s : Took Token) → StepOn k s → StepOn k (only p s)
+  only_on p (Ok (t, r)) h = picked (StepOn k) (p t) _ _ h refl
+  only_on p (Err g) h = refl
 
   -- the next token
   pub token_on : (j : ℕ) → k ≤ j → StepOn k (token_at text j)
@@ -72,9 +66,9 @@ module _ (text : List ℕ) (k : ℕ) where
   set_on zero n j l = refl
   set_on (suc f) n j l = go (inside_at text j) refl (inside_on j l) (λ i h. set_on f (n + 1) i h)
     where
-      go : (s : Step) → inside_at text j ≡ s → StepOn k s → ((i : ℕ) → k ≤ i → MeasureOn k (set_from f text (n + 1) i)) → MeasureOn k (set_from (suc f) text n j)
-      go (step.Refused g) e h ih = rw (e, set_from) refl
-      go (step.Took t r) e h ih = bool_cases (is_sort meta t)
+      go : (s : Took Token) → inside_at text j ≡ s → StepOn k s → ((i : ℕ) → k ≤ i → MeasureOn k (set_from f text (n + 1) i)) → MeasureOn k (set_from (suc f) text n j)
+      go (Err g) e h ih = rw (e, set_from) refl
+      go (Ok (t, r)) e h ih = bool_cases (is_sort meta t)
           (λ i. rw (e, i, set_from) (ih r.next.at h))
           (λ i. rw (e, i, set_from) (picked (MeasureOn k) (is_mark 125 t) _ _ h refl))
 
@@ -83,24 +77,24 @@ module _ (text : List ℕ) (k : ℕ) where
   concat_on zero n j l = refl
   concat_on (suc f) n j l = go (inside_at text j) refl (inside_on j l) (λ m i h. concat_on f m i h)
     where
-      go : (s : Step) → inside_at text j ≡ s → StepOn k s → ((m i : ℕ) → k ≤ i → MeasureOn k (concat_from f text m i)) → MeasureOn k (concat_from (suc f) text n j)
-      go (step.Refused g) e h ih = rw (e, concat_from) refl
-      go (step.Took t r) e h ih = bool_cases (is_part t)
+      go : (s : Took Token) → inside_at text j ≡ s → StepOn k s → ((m i : ℕ) → k ≤ i → MeasureOn k (concat_from f text m i)) → MeasureOn k (concat_from (suc f) text n j)
+      go (Err g) e h ih = rw (e, concat_from) refl
+      go (Ok (t, r)) e h ih = bool_cases (is_part t)
           (λ i. rw (e, i, concat_from) (ih (n + part_width (part_of t)) r.next.at h))
           (λ i. rw (e, i, concat_from) (picked (MeasureOn k) (is_mark 93 t) _ _ h refl))
 
   -- OPERANDS
-  closed_on : (j : ℕ) (m : Measured) → MeasureOn k m → OperandOn k (closed_operand j m)
-  closed_on j (measured.Closed n r) h = h
-  closed_on j (measured.Refused g) h = refl
+  closed_on : (j : ℕ) (m : Took ℕ) → MeasureOn k m → OperandOn k (closed_operand j m)
+  closed_on j (Ok (n, r)) h = h
+  closed_on j (Err g) h = refl
 
   operand_on : (j : ℕ) → k ≤ j → OperandOn k (operand_at text j)
   unfolding operand_at
   operand_on j l = go (token_at text j) (token_on j l)
     where
-      go : (s : Step) → StepOn k s → OperandOn k (operand_from text j s)
-      go (step.Refused g) h = refl
-      go (step.Took t r) h = picked (OperandOn k) (is_part t) _ _ h
+      go : (s : Took Token) → StepOn k s → OperandOn k (operand_from text j s)
+      go (Err g) h = refl
+      go (Ok (t, r)) h = picked (OperandOn k) (is_part t) _ _ h
           (picked (OperandOn k) (is_mark 91 t) _ _ (closed_on j (concat_at text r.next.at) (concat_on (suc (length text)) 0 r.next.at h)) refl)
 
   -- an operand, where the keyword has one
@@ -110,13 +104,13 @@ module _ (text : List ℕ) (k : ℕ) where
   operand_if_on false j l = l
 
   -- REFERENCES
-  link_of_lem : (s : Step) → StepOn k s → LinkOn k (link_of s)
-  link_of_lem (step.Took t r) h = h
-  link_of_lem (step.Refused g) h = refl
+  link_of_lem : (s : Took Token) → StepOn k s → LinkOn k (link_of s)
+  link_of_lem (Ok (t, r)) h = h
+  link_of_lem (Err g) h = refl
 
-  link_from_lem : (s : Step) → StepOn k s → LinkOn k (link_from text s)
-  link_from_lem (step.Took t r) h = link_of_lem (only (is_sort meta) (token_at text r.next.at)) (only_on (is_sort meta) (token_at text r.next.at) (token_on r.next.at h))
-  link_from_lem (step.Refused g) h = refl
+  link_from_lem : (s : Took Token) → StepOn k s → LinkOn k (link_from text s)
+  link_from_lem (Ok (t, r)) h = link_of_lem (only (is_sort meta) (token_at text r.next.at)) (only_on (is_sort meta) (token_at text r.next.at) (token_on r.next.at h))
+  link_from_lem (Err g) h = refl
 
   -- a reference that must stand
   pub link_on : (j : ℕ) → k ≤ j → LinkOn k (link_at text j)
@@ -128,27 +122,27 @@ module _ (text : List ℕ) (k : ℕ) where
   unfolding option_at
   option_on w j l = go (token_at text j) (token_on j l)
     where
-      go : (s : Step) → StepOn k s → LinkOn k (option_from text w j s)
-      go (step.Took t r) h = picked (LinkOn k) (is_spelled text w t) _ _ (link_on r.next.at h) l
-      go (step.Refused g) h = refl
+      go : (s : Took Token) → StepOn k s → LinkOn k (option_from text w j s)
+      go (Ok (t, r)) h = picked (LinkOn k) (is_spelled text w t) _ _ (link_on r.next.at h) l
+      go (Err g) h = refl
 
   -- a cell's metadata
   pub meta_on : (j : ℕ) → k ≤ j → LinkOn k (meta_if text j)
   unfolding meta_if
   meta_on j l = go (token_at text j) (token_on j l)
     where
-      go : (s : Step) → StepOn k s → LinkOn k (meta_from j s)
-      go (step.Took t r) h = picked (LinkOn k) (is_sort meta t) _ _ h l
-      go (step.Refused g) h = refl
+      go : (s : Took Token) → StepOn k s → LinkOn k (meta_from j s)
+      go (Ok (t, r)) h = picked (LinkOn k) (is_sort meta t) _ _ h l
+      go (Err g) h = refl
 
   -- POINTS
-  to_point_lem : (s : Step) (go : Token → ℕ → Pointed) → StepOn k s → ((t : Token) (i : ℕ) → k ≤ i → PointOn k (go t i)) → PointOn k (to_point s go)
-  to_point_lem (step.Took t r) go h f = f t r.next.at h
-  to_point_lem (step.Refused g) go h f = refl
+  to_point_lem : (s : Took Token) (go : Token → ℕ → Took Point) → StepOn k s → ((t : Token) (i : ℕ) → k ≤ i → PointOn k (go t i)) → PointOn k (after s go)
+  to_point_lem (Ok (t, r)) go h f = f t r.next.at h
+  to_point_lem (Err g) go h f = refl
 
-  closed_point_lem : (p : Point) (s : Step) → StepOn k s → PointOn k (closed_point p s)
-  closed_point_lem p (step.Took t r) h = h
-  closed_point_lem p (step.Refused g) h = refl
+  closed_point_lem : (p : Point) (s : Took Token) → StepOn k s → PointOn k (closed_point p s)
+  closed_point_lem p (Ok (t, r)) h = h
+  closed_point_lem p (Err g) h = refl
 
   -- a point of a source range
   pub point_on : (j : ℕ) → k ≤ j → PointOn k (point_at text j)

@@ -1,4 +1,7 @@
 -- A declaration begins inside the text and ends behind where it begins; so declarations that stand are no more than the text's bytes.
+use Rattle.form.specs.Form.{Form}
+use Rattle.lexis.specs.Took.{Took, after}
+use Rattle.std.specs.Prelude.{Ok, Err, Some, None}
 use mathlib.Core.Path.{◌≡◌, refl, subst}
 use mathlib.Core.Bool.{Bool, false}
 use mathlib.Core.List.{List}
@@ -16,12 +19,10 @@ use Rattle.kinds.proofs.Widths.{picked}
 use Rattle.lexis.specs.Tokens.{token_from, token_at, inside_at, line_end, text_end, meta, io, string}
 use Rattle.lexis.specs.declared.Reader.{Reader}
 use Rattle.lexis.specs.declared.Token.{Token}
-use Rattle.lexis.specs.declared.Step.{Step}
-use Rattle.lexis.specs.declared.Step.TheVariants as step
 use Rattle.signs.proofs.Laws.{inside_end_lem}
 use Rattle.brackets.specs.Words.{is_sort, is_mark, is_word, kind_of}
 use Rattle.brackets.specs.Parts.{str, set_at}
-use Rattle.form.specs.Forms.{only, after, after_operand, after_ref, after_set, after_point, ended, set_form, point_at, source_form, link_at, option_at, is_label, label_of, scope_form, ident_form, is_payload, payload_of, attr_form, meta_form, io_form, operand_if, meta_if, wiring_form, named_form, cell_form, body_form, is_opening, open_form, form_at}
+use Rattle.form.specs.Forms.{only, ended, set_form, point_at, source_form, link_at, option_at, is_label, label_of, scope_form, ident_form, is_payload, payload_of, attr_form, meta_form, io_form, operand_if, meta_if, wiring_form, named_form, cell_form, body_form, is_opening, open_form, form_at}
 use Rattle.brackets.specs.declared.Str.{Str}
 use Rattle.brackets.specs.declared.Ref.{Ref}
 use Rattle.brackets.specs.declared.Operand.{Operand}
@@ -29,16 +30,6 @@ use Rattle.form.specs.declared.Point.{Point}
 use Rattle.form.specs.declared.Decl.{Decl}
 use Rattle.form.specs.declared.Decl.TheVariants as decl
 use Rattle.form.specs.declared.Declared.{Declared}
-use Rattle.form.specs.declared.Form.{Form}
-use Rattle.form.specs.declared.Form.TheVariants as form
-use Rattle.brackets.specs.declared.Measured.{Measured}
-use Rattle.brackets.specs.declared.Measured.TheVariants as measured
-use Rattle.brackets.specs.declared.Taken.{Taken}
-use Rattle.brackets.specs.declared.Taken.TheVariants as taken
-use Rattle.form.specs.declared.Pointed.{Pointed}
-use Rattle.form.specs.declared.Pointed.TheVariants as pointed
-use Rattle.form.specs.declared.Linked.{Linked}
-use Rattle.form.specs.declared.Linked.TheVariants as linked
 use Rattle.saying.proofs.Tokens.{Nothing}
 use Rattle.language.specs.Language.{Stand, ended as stand-ended, next}
 use Rattle.language.proofs.Moves.{Moves, moves_from, token_moves}
@@ -46,40 +37,40 @@ use Rattle.language.proofs.Onward.{StepOn, MeasureOn, OperandOn, LinkOn, PointOn
 
 -- a declaration ends behind
 abbrev FormOn : ℕ → Form → Type 0
-FormOn k (form.Took d r) = k < r.next.at
-FormOn k form.End = Nothing
-FormOn k (form.Refused g) = Nothing
+FormOn k (Ok (Some (d, r))) = k < r.next.at
+FormOn k (Ok None) = Nothing
+FormOn k (Err g) = Nothing
 
 module _ (text : List ℕ) (k : ℕ) where
   -- WHAT FOLLOWS
   either : (b : Bool) (x y : Form) → FormOn k x → FormOn k y → FormOn k (pick b x y)
   either b x y p q = picked (FormOn k) b x y p q
 
-  after_step : (s : Step) (go : Token → ℕ → Form) → StepOn k s → ((t : Token) (i : ℕ) → k ≤ i → FormOn k (go t i)) → FormOn k (after s go)
-  after_step (step.Took t r) go h f = f t r.next.at h
-  after_step (step.Refused g) go h f = refl
+  after_step : (s : Took Token) (go : Token → ℕ → Form) → StepOn k s → ((t : Token) (i : ℕ) → k ≤ i → FormOn k (go t i)) → FormOn k (after s go)
+  after_step (Ok (t, r)) go h f = f t r.next.at h
+  after_step (Err g) go h f = refl
 
   after_token : (p : Token → Bool) (j : ℕ) (go : Token → ℕ → Form) → k ≤ j → ((t : Token) (i : ℕ) → k ≤ i → FormOn k (go t i)) → FormOn k (after (only p (token_at text j)) go)
   after_token p j go l f = after_step (only p (token_at text j)) go (only_on text k p (token_at text j) (token_on text k j l)) f
 
-  after_operand_lem : (given : Bool) (j : ℕ) (go : Operand → ℕ → Form) → k ≤ j → ((o : Operand) (i : ℕ) → k ≤ i → FormOn k (go o i)) → FormOn k (after_operand (operand_if given text j) go)
+  after_operand_lem : (given : Bool) (j : ℕ) (go : Operand → ℕ → Form) → k ≤ j → ((o : Operand) (i : ℕ) → k ≤ i → FormOn k (go o i)) → FormOn k (after (operand_if given text j) go)
   after_operand_lem given j go l f = step (operand_if given text j) (operand_if_on text k given j l)
     where
-      step : (o : Taken) → OperandOn k o → FormOn k (after_operand o go)
-      step (taken.Took o r) h = f o r.next.at h
-      step (taken.Refused g) h = refl
+      step : (o : Took Operand) → OperandOn k o → FormOn k (after o go)
+      step (Ok (o, r)) h = f o r.next.at h
+      step (Err g) h = refl
 
-  after_ref_lem : (l : Linked) (go : Ref → ℕ → Form) → LinkOn k l → ((r : Ref) (i : ℕ) → k ≤ i → FormOn k (go r i)) → FormOn k (after_ref l go)
-  after_ref_lem (linked.Took f r) go h g = g f r.next.at h
-  after_ref_lem (linked.Refused x) go h g = refl
+  after_ref_lem : (l : Took Ref) (go : Ref → ℕ → Form) → LinkOn k l → ((r : Ref) (i : ℕ) → k ≤ i → FormOn k (go r i)) → FormOn k (after l go)
+  after_ref_lem (Ok (f, r)) go h g = g f r.next.at h
+  after_ref_lem (Err x) go h g = refl
 
-  after_point_lem : (o : Pointed) (go : Point → ℕ → Form) → PointOn k o → ((o : Point) (i : ℕ) → k ≤ i → FormOn k (go o i)) → FormOn k (after_point o go)
-  after_point_lem (pointed.Took o r) go h f = f o r.next.at h
-  after_point_lem (pointed.Refused g) go h f = refl
+  after_point_lem : (o : Took Point) (go : Point → ℕ → Form) → PointOn k o → ((o : Point) (i : ℕ) → k ≤ i → FormOn k (go o i)) → FormOn k (after o go)
+  after_point_lem (Ok (o, r)) go h f = f o r.next.at h
+  after_point_lem (Err g) go h f = refl
 
-  after_set_lem : (o : Measured) (go : ℕ → ℕ → Form) → MeasureOn k o → ((n i : ℕ) → k ≤ i → FormOn k (go n i)) → FormOn k (after_set o go)
-  after_set_lem (measured.Closed n r) go h f = f n r.next.at h
-  after_set_lem (measured.Refused g) go h f = refl
+  after_set_lem : (o : Took ℕ) (go : ℕ → ℕ → Form) → MeasureOn k o → ((n i : ℕ) → k ≤ i → FormOn k (go n i)) → FormOn k (after o go)
+  after_set_lem (Ok (n, r)) go h f = f n r.next.at h
+  after_set_lem (Err g) go h f = refl
 
   -- THE DECLARATION that a token opens
   module _ (t : Token) where
@@ -87,9 +78,9 @@ module _ (text : List ℕ) (k : ℕ) where
     ended_on : (d : Decl) (j : ℕ) → k ≤ j → FormOn k (ended text t d j)
     ended_on d j l = go (token_at text j) (moves_from k j (token_at text j) l (token_moves text j))
       where
-        go : (s : Step) → Moves k s → FormOn k (after (only (is_sort line_end) s) (λ e i. form.Took (record { place = t.place; index = t.value; decl = d }) (record { next = record { at = i } })))
-        go (step.Took u r) h = bool_cases (is_sort line_end u) (λ e. rw e (h.past e)) (λ e. rw e refl)
-        go (step.Refused g) h = refl
+        go : (s : Took Token) → Moves k s → FormOn k (after (only (is_sort line_end) s) (λ e i. Ok (Some (record { place = t.place; index = t.value; decl = d }, record { next = record { at = i } }))))
+        go (Ok (u, r)) h = bool_cases (is_sort line_end u) (λ e. rw e (h.past e)) (λ e. rw e refl)
+        go (Err g) h = refl
 
     set_form_on : (j : ℕ) → k ≤ j → FormOn k (set_form text t j)
     unfolding set_form
@@ -169,18 +160,18 @@ module _ (text : List ℕ) (k : ℕ) where
   form_on = after_step (inside_at text k) _ (inside_on text k k (omega arith)) (λ t k1 h. open_on t k1 h)
 
   -- at the end of the text and past it no declaration begins
-  form_end : length text ≤ k → form_at text k ≡ form.End
+  form_end : length text ≤ k → form_at text k ≡ Ok None
   unfolding form_at inside_at token_from open_form
   form_end h = rw (inside_end_lem text k false h, rest_end text k h)
 
   -- A DECLARATION THAT IS TAKEN begins inside the text
-  pub took_inside : (d : Declared) (r : Reader) → form_at text k ≡ form.Took d r → k < length text
+  pub took_inside : (d : Declared) (r : Reader) → form_at text k ≡ Ok (Some (d, r)) → k < length text
   took_inside d r e = bool_cases (ltb k (length text))
       (λ l. ltb-true k (length text) l)
       (λ l. let f = form_end (ltb-false k (length text) l) in let z : ◌≡◌ {A = ℕ} 0 1 = cc in absurd (omega arith))
 
   -- and ends behind where it begins
-  pub took_past : (d : Declared) (r : Reader) → form_at text k ≡ form.Took d r → k < r.next.at
+  pub took_past : (d : Declared) (r : Reader) → form_at text k ≡ Ok (Some (d, r)) → k < r.next.at
   took_past d r e = subst (FormOn k) e form_on
 
 -- DECLARATIONS THAT STAND are no more than the bytes of the text from their place on

@@ -1,4 +1,6 @@
 -- What reading takes: where it comes to an end with nothing refused, declarations stand to the end of the text and keep every rule of 9 to 13.
+use Rattle.form.specs.Form.{Form}
+use Rattle.std.specs.Prelude.{Ok, Err, Some, None}
 use mathlib.Core.Path.{◌≡◌, refl, sym, ap, subst, ◌∙◌}
 use mathlib.Core.Bool.{true, false, ◌&&◌}
 use mathlib.Core.List.{List, [], ◌∷◌}
@@ -12,8 +14,6 @@ use Rattle.ground.proofs.Bools.{true_and, not_of_false, or_false}
 use Rattle.kinds.specs.Kinds.{kind_at}
 use Rattle.form.specs.Forms.{form_at}
 use Rattle.form.specs.declared.Declared.{Declared}
-use Rattle.form.specs.declared.Form.{Form}
-use Rattle.form.specs.declared.Form.TheVariants as form
 use Rattle.netlist.specs.Rules.{taken, names_as, is_byte}
 use Rattle.saying.specs.Rules.{Sofar, nothing, Said, metadata, pad, cell, said_by, added, declares, twice, asked_of, incomplete, misfit, ruled_out}
 use Rattle.noting.proofs.Forming.{formed}
@@ -60,7 +60,7 @@ said_in old (all so) = so
 said_in old (stopped g) = old
 
 module _ (text : List ℕ) where
-  stood_none : (k : ℕ) (so more : Sofar) → form_at text k ≡ form.End → Sound so → NumbersOnce so → all so ≡ all more → Stood text k so more
+  stood_none : (k : ℕ) (so more : Sofar) → form_at text k ≡ Ok None → Sound so → NumbersOnce so → all so ≡ all more → Stood text k so more
   unfolding say_from each_from
   stood_none k so more v h n e =
       let same : so ≡ more = ap (said_in so) e in
@@ -75,9 +75,9 @@ module _ (text : List ℕ) where
       where
         go : (v : Form) → form_at text k ≡ v
             → ((j : ℕ) (so' : Sofar) → length text - j < f → Sound so' → NumbersOnce so' → declarations_from f text j so' ≡ all more → Stood text j so' more) → Stood text k so more
-        go (form.Refused g) v ih = never_all g more (sym (form_stops text k so g v f) ∙ e)
-        go form.End v ih = stood_none k so more v h n (sym (form_ends text k so v f) ∙ e)
-        go (form.Took d r) v ih = ruling (ruled_out text so d) refl
+        go (Err g) v ih = never_all g more (sym (form_stops text k so g v f) ∙ e)
+        go (Ok None) v ih = stood_none k so more v h n (sym (form_ends text k so v f) ∙ e)
+        go (Ok (Some (d, r))) v ih = ruling (ruled_out text so d) refl
           where
             ruling : (x : Option Refusal) → ruled_out text so d ≡ x → Stood text k so more
             ruling (some g) o = never_all g more (sym (rule_stops text k so d r v g o f) ∙ e)

@@ -1,14 +1,12 @@
 -- THE LANGUAGE, apart from the order in which 9 to 14 are asked: when a text says a netlist. The text is sound as a whole; its
 -- declarations stand one behind the other, each of good form (5 to 8, by form/specs/Forms); and rules 9 to 14 hold of them all.
-use Rattle.std.specs.Prelude.{ℕ, ◌≡◌, Bool, true, false, not, ◌&&◌, List, [], ◌∷◌, eqb}
+use Rattle.std.specs.Prelude.{ℕ, ◌≡◌, Bool, true, false, not, ◌&&◌, List, [], ◌∷◌, eqb, Ok, Some, None}
 use Rattle.ground.specs.Lists.{every}
 use Rattle.kinds.specs.Kinds.{input_kind, output_kind}
 use Rattle.scanning.specs.Whole.{whole_of}
 use Rattle.lexis.specs.declared.Reader.{Reader}
-use Rattle.scanning.specs.declared.Whole.TheVariants as whole
 use Rattle.form.specs.Forms.{form_at}
 use Rattle.form.specs.declared.Declared.{Declared}
-use Rattle.form.specs.declared.Form.TheVariants as form
 use Rattle.netlist.specs.Netlist.{Netlist}
 use Rattle.netlist.specs.Rules.{distinct, io_names, names_as, widths_of, roomy}
 use Rattle.saying.specs.Pieces.{unresolved}
@@ -17,8 +15,8 @@ use Rattle.declaring.specs.Reading.{netlist_of}
 
 -- 001, General structure: declarations from a place on, one behind the other, to the end of the text
 pub data Stand (text : List ℕ) : ℕ → List Declared → Type 0 where
-  ended : {k : ℕ} → form_at text k ≡ form.End → Stand text k []
-  next : {k : ℕ} {d : Declared} {r : Reader} {ds : List Declared} → form_at text k ≡ form.Took d r → Stand text r.next.at ds → Stand text k (d ∷ ds)
+  ended : {k : ℕ} → form_at text k ≡ Ok None → Stand text k []
+  next : {k : ℕ} {d : Declared} {r : Reader} {ds : List Declared} → form_at text k ≡ Ok (Some (d, r)) → Stand text r.next.at ds → Stand text k (d ∷ ds)
 
 -- what they say, behind what is said already
 unfoldable pub say_from : List ℕ → Sofar → List Declared → Sofar
@@ -48,7 +46,7 @@ once (n ∷ ns) = not (has n ns) && once ns
 -- THE TEXT SAYS THE NETLIST
 pub record Says (text : List ℕ) (N : Netlist) : Type 0 where
   -- 2, 3, 4
-  pub sound : whole_of text ≡ whole.Sound
+  pub sound : whole_of text ≡ Ok tt
   -- 5 to 8
   pub declarations : List Declared
   pub stand : Stand text 0 declarations

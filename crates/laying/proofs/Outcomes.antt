@@ -1,5 +1,6 @@
 -- What the contracts of laying fix: the trits of a constant always; of an operand and of a cell, whether the runs fit, and where they do
 -- every count and every word of the two regions.
+use Rattle.std.specs.Prelude.{Some, None}
 use mathlib.Core.Path.{◌≡◌, sym, ap₂, ◌∙◌}
 use mathlib.Core.Bool.{Bool}
 use mathlib.Core.List.{List, ◌++◌, map}
@@ -14,9 +15,7 @@ use Rattle.netlist.specs.Netlist.{Run}
 use Rattle.laying.specs.Holding.{Holds, After, CellAfter}
 use Rattle.laying.specs.Bare.{TellsBare, CellTellsBare}
 use Rattle.laying.specs.declared.Laid.{Laid}
-use Rattle.laying.specs.declared.OperandLaying.TheVariants as operandLaying
 use Rattle.laying.specs.declared.Counts.{Counts}
-use Rattle.laying.specs.declared.CellLaying.TheVariants as cellLaying
 
 pub one_trits : (text : List ℕ) (from size at : ℕ) (trits o p : List ℕ) → o ≡ sets trits at (map trit_of (part from size text)) → p ≡ sets trits at (map trit_of (part from size text)) → o ≡ p
 one_trits text from size at = any_two (λ trits. sets trits at (map trit_of (part from size text)))
@@ -31,19 +30,19 @@ never_full : (rs : List Run) (a x : List ℕ) (s : Laid) → Holds rs a x s → 
 never_full rs a x s h l = let m = h.long in omega arith
 
 module _ (rs new : List Run) (a x b y : List ℕ) where
-  pub one_laid : (s t : Laid) (p q : Bool) → After rs new (operandLaying.Laid s p) a x → After rs new (operandLaying.Laid t q) b y → (s ≡ t) × (a ≡ b) × (x ≡ y)
+  pub one_laid : (s t : Laid) (p q : Bool) → After rs new (Some (s, p)) a x → After rs new (Some (t, q)) b y → (s ≡ t) × (a ≡ b) × (x ≡ y)
   one_laid s t p q = one_held (rs ++ new) a x b y s t
 
-  pub laid_or_full : (s : Laid) (p : Bool) → After rs new (operandLaying.Laid s p) a x → After rs new operandLaying.Full b y → ⊥
+  pub laid_or_full : (s : Laid) (p : Bool) → After rs new (Some (s, p)) a x → After rs new None b y → ⊥
   laid_or_full s p = never_full (rs ++ new) a x s
 
 -- and the answer tells the same of parts without bits
-pub one_told : (bare : Bool) (s t : Laid) (p q : Bool) → TellsBare bare (operandLaying.Laid s p) → TellsBare bare (operandLaying.Laid t q) → p ≡ q
+pub one_told : (bare : Bool) (s t : Laid) (p q : Bool) → TellsBare bare (Some (s, p)) → TellsBare bare (Some (t, q)) → p ≡ q
 one_told bare s t p q h k = h ∙ sym k
 
 module _ (rs ra rb rc : List Run) (bare : Bool) (a x b y : List ℕ) where
-  pub one_cell_laid : (s t : Counts) → CellAfter rs ra rb rc (cellLaying.Laid s) a x → CellTellsBare bare (cellLaying.Laid s)
-      → CellAfter rs ra rb rc (cellLaying.Laid t) b y → CellTellsBare bare (cellLaying.Laid t) → (s ≡ t) × (a ≡ b) × (x ≡ y)
+  pub one_cell_laid : (s t : Counts) → CellAfter rs ra rb rc (Some s) a x → CellTellsBare bare (Some s)
+      → CellAfter rs ra rb rc (Some t) b y → CellTellsBare bare (Some t) → (s ≡ t) × (a ≡ b) × (x ≡ y)
   one_cell_laid s t h p k q =
       let e = one_held (rs ++ (ra ++ (rb ++ rc))) a x b y s.so t.so h.holds k.holds in
       (alike s.a t.a s.b t.b s.c t.c s.so t.so s.bare t.bare (h.a ∙ sym k.a) (h.b ∙ sym k.b) (h.c ∙ sym k.c) e.0 (p ∙ sym q), e.1, e.2)
@@ -51,5 +50,5 @@ module _ (rs ra rb rc : List Run) (bare : Bool) (a x b y : List ℕ) where
       alike : (a b c d e f : ℕ) (s t : Laid) (m n : Bool) → a ≡ b → c ≡ d → e ≡ f → s ≡ t → m ≡ n → ◌≡◌ {A = Counts} (record { a = a; b = c; c = e; so = s; bare = m }) (record { a = b; b = d; c = f; so = t; bare = n })
       alike a b c d e f s t m n p q r u v = rw (p, q, r, u, v)
 
-  pub cell_laid_or_full : (s : Counts) → CellAfter rs ra rb rc (cellLaying.Laid s) a x → CellAfter rs ra rb rc cellLaying.Full b y → ⊥
+  pub cell_laid_or_full : (s : Counts) → CellAfter rs ra rb rc (Some s) a x → CellAfter rs ra rb rc None b y → ⊥
   cell_laid_or_full s h = never_full (rs ++ (ra ++ (rb ++ rc))) a x s.so h.holds

@@ -1,5 +1,6 @@
 -- A part that is a cell identifier by its numbers, without a token.
 -- Assumes nothing.
+use Rattle.std.specs.Prelude.{Some, None}
 use mathlib.Core.Path.{◌≡◌, refl, ap, sym, subst, ◌∙◌}
 use mathlib.Core.Bool.{Bool, true, false, ◌||◌}
 use mathlib.Core.List.{List, [], ◌∷◌}
@@ -21,8 +22,6 @@ use Rattle.netlist.specs.Runs.{falling}
 use Rattle.laying.specs.Growing.{OpenedRows, Grows}
 use Rattle.laying.specs.Bare.{PartsFit, PartsLaid}
 use Rattle.laying.specs.declared.Laid.{Laid}
-use Rattle.laying.specs.declared.Laying.TheVariants as laying
-use Rattle.laying.specs.declared.OperandLaying.TheVariants as operandLaying
 use Rattle.laying.proofs.Walking.{parts_other, parts_took, Walks, walks_as, walks_done, walks_fits, walks_more, walks_full}
 
 abbrev piece_of : Spot → Part
@@ -60,7 +59,7 @@ module _ (text : List ℕ) (k : ℕ) (s : Spot) (e : s ≡ spot_at text k) where
 -- AN OPERAND ON ITS WAY, where its next part is asked for by its numbers
 module _ (text : List ℕ) (all : List PartAt) (runs₀ trits₀ : List ℕ) (so₀ : Laid) (k f : ℕ) (s : Spot) (e : s ≡ spot_at text k)
     {runs trits : List ℕ} {so : Laid} {bare : Bool} (w : Walks text all (parts_from f text k) runs₀ trits₀ so₀ runs trits so bare) where
-  pub spot_done : s.closed ≡ true → PartsLaid text all runs₀ trits₀ so₀ (operandLaying.Laid so bare) runs trits
+  pub spot_done : s.closed ≡ true → PartsLaid text all runs₀ trits₀ so₀ (Some (so, bare)) runs trits
   spot_done h = walks_done text all runs₀ trits₀ so₀ (walks_as (parts_shut text k s e h f) w)
 
   module _ (h : s.found ≡ true) (l : 0 < f) where
@@ -76,10 +75,10 @@ module _ (text : List ℕ) (all : List PartAt) (runs₀ trits₀ : List ℕ) (so
         let m = walks_fits text all runs₀ trits₀ so₀ (spot_part s place) (parts_from (f - 1) text s.end) walks_on g in
         (m.0.0, m.0.1, record { trits = trits; opened = m.1 })
 
-    pub spot_more : {runs' : List ℕ} {so' : Laid} {bare' : Bool} → ((ts : List ℕ) → Grows so₀.runs runs ts so (falling s.cell s.offset s.width) (laying.Laid so') runs' ts)
+    pub spot_more : {runs' : List ℕ} {so' : Laid} {bare' : Bool} → ((ts : List ℕ) → Grows so₀.runs runs ts so (falling s.cell s.offset s.width) (Some so') runs' ts)
         → bare' ≡ bare || eqb s.width 0 → Walks text all (parts_from (f - 1) text s.end) runs₀ trits₀ so₀ runs' trits so' bare'
     spot_more g b = walks_more text all runs₀ trits₀ so₀ (spot_part s place) (parts_from (f - 1) text s.end) walks_on (g trits) b
 
-    pub spot_full : {runs' : List ℕ} → ((ts : List ℕ) → Grows so₀.runs runs ts so (falling s.cell s.offset s.width) laying.Full runs' ts)
-        → PartsLaid text all runs₀ trits₀ so₀ operandLaying.Full runs' trits
+    pub spot_full : {runs' : List ℕ} → ((ts : List ℕ) → Grows so₀.runs runs ts so (falling s.cell s.offset s.width) None runs' ts)
+        → PartsLaid text all runs₀ trits₀ so₀ None runs' trits
     spot_full g = walks_full text all runs₀ trits₀ so₀ (spot_part s place) (parts_from (f - 1) text s.end) walks_on (g trits)

@@ -1,5 +1,6 @@
 -- An operand laid turn by turn: some of its bits are laid, and the rest gives what the whole gives.
 -- Assumes nothing.
+use Rattle.std.specs.Prelude.{Some, None}
 use mathlib.Core.Path.{◌≡◌, refl, ap, sym, subst, ◌∙◌}
 use mathlib.Core.List.{List, [], ◌∷◌, ◌++◌, append_assoc, append-nil}
 use Prim.Native.Nat.{ℕ, zero, suc, ◌+◌, ◌-◌, ◌*◌, ◌<◌, ◌≤◌}
@@ -19,7 +20,6 @@ use Rattle.saying.specs.Values.{trits_in, base_bits, copies, part_bits}
 use Rattle.netlist.proofs.Runs.{length_falling, length_known}
 use Rattle.laying.specs.Growing.{Open, Opened, Grows, BaseIn, PartIn, PartsIn, none, more}
 use Rattle.laying.specs.declared.Laid.{Laid}
-use Rattle.laying.specs.declared.Laying.TheVariants as laying
 use Rattle.laying.proofs.Adding.{grows_none}
 use Rattle.constants.proofs.Copying.{trits_long}
 use Rattle.laying.proofs.Melding.{cut_more}
@@ -43,7 +43,7 @@ module _ {first : ℕ} {runs₀ trits₀ : List ℕ} {so₀ : Laid} {all : List 
   turned_as e t = subst (λ (l : List Bit). Turned first runs₀ trits₀ so₀ all l runs trits so) e t
 
   module _ (new rest : List Bit) (t : Turned first runs₀ trits₀ so₀ all (new ++ rest) runs trits so) where
-    pub turned_more : {runs' trits' : List ℕ} {so' : Laid} → Grows first runs trits so new (laying.Laid so') runs' trits'
+    pub turned_more : {runs' trits' : List ℕ} {so' : Laid} → Grows first runs trits so new (Some so') runs' trits'
         → Turned first runs₀ trits₀ so₀ all rest runs' trits' so'
     turned_more g = record {
       behind = λ rs done o.
@@ -51,8 +51,8 @@ module _ {first : ℕ} {runs₀ trits₀ : List ℕ} {so₀ : Laid} {all : List 
           record { done = p.done ++ new; stands = g.behind rs p.done p.stands; left = append_assoc p.done new rest ∙ p.left };
     }
 
-    pub turned_full : {runs' trits' runs'' trits'' : List ℕ} → Grows first runs trits so new laying.Full runs' trits'
-        → Grows first runs₀ trits₀ so₀ all laying.Full runs'' trits''
+    pub turned_full : {runs' trits' runs'' trits'' : List ℕ} → Grows first runs trits so new None runs' trits'
+        → Grows first runs₀ trits₀ so₀ all None runs'' trits''
     turned_full g = record {
       behind = λ rs done o.
           let p = t.behind rs done o in
@@ -63,7 +63,7 @@ module _ {first : ℕ} {runs₀ trits₀ : List ℕ} {so₀ : Laid} {all : List 
           rw length-append (omega arith);
     }
 
-  pub turned_all : Turned first runs₀ trits₀ so₀ all [] runs trits so → Grows first runs₀ trits₀ so₀ all (laying.Laid so) runs trits
+  pub turned_all : Turned first runs₀ trits₀ so₀ all [] runs trits so → Grows first runs₀ trits₀ so₀ all (Some so) runs trits
   turned_all t = record {
     behind = λ rs done o.
         let p = t.behind rs done o in
@@ -130,19 +130,19 @@ module _ (text : List ℕ) (b : Base) (count left : ℕ) {first : ℕ} {runs₀ 
         let l : length (copies count (base_bits text b)) ≡ count * base_width b = length_copies count (base_bits text b) ∙ rw w in
         turned_room (base_bits text b ++ copies (left - 1) (base_bits text b)) one_more h (omega arith) (base_width b) (rw length-append (omega arith))
 
-    pub copies_turn : {runs' trits' : List ℕ} {so' : Laid} → Grows first runs trits so (base_bits text b) (laying.Laid so') runs' trits'
+    pub copies_turn : {runs' trits' : List ℕ} {so' : Laid} → Grows first runs trits so (base_bits text b) (Some so') runs' trits'
         → Turned first runs₀ trits₀ so₀ (copies count (base_bits text b)) (copies (left - 1) (base_bits text b)) runs' trits' so'
     copies_turn g = turned_more (base_bits text b) (copies (left - 1) (base_bits text b)) one_more g
 
-    pub copies_stop : {runs' trits' : List ℕ} → Grows first runs trits so (base_bits text b) laying.Full runs' trits'
-        → Grows first runs₀ trits₀ so₀ (copies count (base_bits text b)) laying.Full runs' trits'
+    pub copies_stop : {runs' trits' : List ℕ} → Grows first runs trits so (base_bits text b) None runs' trits'
+        → Grows first runs₀ trits₀ so₀ (copies count (base_bits text b)) None runs' trits'
     copies_stop g = turned_full (base_bits text b) (copies (left - 1) (base_bits text b)) one_more g
 
-  pub copies_end : left ≤ 0 → Grows first runs₀ trits₀ so₀ (copies count (base_bits text b)) (laying.Laid so) runs trits
+  pub copies_end : left ≤ 0 → Grows first runs₀ trits₀ so₀ (copies count (base_bits text b)) (Some so) runs trits
   copies_end z =
       let e : left ≡ 0 = omega arith in
       turned_all (turned_as (ap (λ (n : ℕ). copies n (base_bits text b)) e ∙ copies_none (base_bits text b)) t)
 
 pub copies_nothing : (text : List ℕ) (b : Base) (count : ℕ) {first : ℕ} {runs trits : List ℕ} {so : Laid} → BaseIn text b → base_width b ≡ 0
-    → Grows first runs trits so (copies count (base_bits text b)) (laying.Laid so) runs trits
+    → Grows first runs trits so (copies count (base_bits text b)) (Some so) runs trits
 copies_nothing text b count i z = grows_none (copies count (base_bits text b)) (copies_empty count (base_bits text b) (base_wide text b i ∙ z))

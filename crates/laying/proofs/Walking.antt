@@ -1,5 +1,6 @@
 -- An operand from its first part to its last.
 -- Assumes nothing.
+use Rattle.std.specs.Prelude.{Ok, Err, Option, Some, None}
 use mathlib.Core.Path.{◌≡◌, refl, ap, sym, subst, ◌∙◌}
 use mathlib.Core.Bool.{Bool, true, false, ◌||◌}
 use mathlib.Core.List.{List, [], ◌∷◌, ◌++◌, append-nil}
@@ -15,7 +16,6 @@ use Rattle.ground.specs.declared.Refusal.{Refusal}
 use Rattle.lexis.specs.Tokens.{token_at, inside_at}
 use Rattle.lexis.specs.declared.Reader.{Reader}
 use Rattle.lexis.specs.declared.Token.{Token}
-use Rattle.lexis.specs.declared.Step.TheVariants as step
 use Rattle.brackets.specs.Parts.{PartAt, is_part, part_of, part_width, parted_of, next_part, parts_from, parts_at}
 use Rattle.brackets.specs.declared.Operand.{Operand}
 use Rattle.brackets.specs.declared.Parted.TheVariants as parted
@@ -28,9 +28,6 @@ use Rattle.laying.specs.Holding.{Holds, Held, After}
 use Rattle.laying.specs.Growing.{Open, Opened, Grows, PartIn, PartsIn, none, more}
 use Rattle.laying.specs.Bare.{is_bare, some_bare, TellsBare, token_part, PartsFit, PartsLaid}
 use Rattle.laying.specs.declared.Laid.{Laid}
-use Rattle.laying.specs.declared.Laying.TheVariants as laying
-use Rattle.laying.specs.declared.OperandLaying.{OperandLaying}
-use Rattle.laying.specs.declared.OperandLaying.TheVariants as operandLaying
 use Rattle.laying.proofs.Inside.{token_in}
 use Rattle.laying.proofs.Turning.{Turned, turned_none, turned_more, turned_full, turned_all, turned_room, bits_of, bits_wide, part_wide}
 
@@ -41,21 +38,21 @@ module _ (text : List ℕ) (k : ℕ) where
   parts_none zero h = refl
   parts_none (suc f) h = absurd (omega arith)
 
-  pub parts_refused : (f : ℕ) (g : Refusal) → inside_at text k ≡ step.Refused g → parts_from f text k ≡ []
+  pub parts_refused : (f : ℕ) (g : Refusal) → inside_at text k ≡ Err g → parts_from f text k ≡ []
   unfolding parts_from next_part
   parts_refused zero g e = refl
-  parts_refused (suc f) g e = let v : next_part text k ≡ parted.Refused g = ap parted_of e in rw (v, parts_from)
+  parts_refused (suc f) g e = let v : next_part text k ≡ Err g = ap parted_of e in rw (v, parts_from)
 
-  module _ (t : Token) (r : Reader) (e : inside_at text k ≡ step.Took t r) where
+  module _ (t : Token) (r : Reader) (e : inside_at text k ≡ Ok (t, r)) where
     pub parts_other : (f : ℕ) → is_part t ≡ false → parts_from f text k ≡ []
     unfolding parts_from next_part
     parts_other zero not = refl
-    parts_other (suc f) not = let v : next_part text k ≡ parted.Other t r = ap parted_of e ∙ rw not in rw (v, parts_from)
+    parts_other (suc f) not = let v : next_part text k ≡ Ok (parted.Other t, r) = ap parted_of e ∙ rw not in rw (v, parts_from)
 
     pub parts_took : (f : ℕ) → 0 < f → is_part t ≡ true → parts_from f text k ≡ token_part t ∷ parts_from (f - 1) text r.next.at
     unfolding parts_from next_part
     parts_took zero h is = absurd (omega arith)
-    parts_took (suc f) h is = let v : next_part text k ≡ parted.Took (token_part t).part t.place r = ap parted_of e ∙ rw is in simp sub-one (rw (v, parts_from))
+    parts_took (suc f) h is = let v : next_part text k ≡ Ok (parted.Took (token_part t).part t.place, r) = ap parted_of e ∙ rw is in simp sub-one (rw (v, parts_from))
 
 -- A REPETITION without bits: by 0, or of nothing
 pub none_bare : (n w : ℕ) → n ≡ 0 → true ≡ eqb (n * w) 0
@@ -105,7 +102,7 @@ module _ (text : List ℕ) (all : List PartAt) (runs₀ trits₀ : List ℕ) (so
 
   module _ {runs trits : List ℕ} {so : Laid} {bare : Bool} where
     -- no part is left
-    pub walks_done : Walks text all [] runs₀ trits₀ so₀ runs trits so bare → PartsLaid text all runs₀ trits₀ so₀ (operandLaying.Laid so bare) runs trits
+    pub walks_done : Walks text all [] runs₀ trits₀ so₀ runs trits so bare → PartsLaid text all runs₀ trits₀ so₀ (Some (so, bare)) runs trits
     unfolding joined some_bare
     walks_done w = record {
       laid = λ rs h. ((turned_all w.turned).behind rs [] (open_none h)).holds;
@@ -140,7 +137,7 @@ module _ (text : List ℕ) (all : List PartAt) (runs₀ trits₀ : List ℕ) (so
       pub walks_fits : PartsFit all runs₀ trits₀ so₀ → PartIn text p.part × Opened so₀.runs runs trits so (part_width p.part)
       walks_fits h = (walks_in, walks_room h)
 
-      pub walks_more : {runs' trits' : List ℕ} {so' : Laid} {bare' : Bool} → Grows so₀.runs runs trits so (part_bits text p.part) (laying.Laid so') runs' trits'
+      pub walks_more : {runs' trits' : List ℕ} {so' : Laid} {bare' : Bool} → Grows so₀.runs runs trits so (part_bits text p.part) (Some so') runs' trits'
           → bare' ≡ bare || is_bare p → Walks text all rest runs₀ trits₀ so₀ runs' trits' so' bare'
       unfolding some_bare
       walks_more g b = record {
@@ -150,10 +147,10 @@ module _ (text : List ℕ) (all : List PartAt) (runs₀ trits₀ : List ℕ) (so
         told = ap (λ (x : Bool). x || some_bare rest) b ∙ or_assoc bare (is_bare p) (some_bare rest) ∙ w.told;
       }
 
-      pub walks_full : {runs' trits' : List ℕ} → Grows so₀.runs runs trits so (part_bits text p.part) laying.Full runs' trits'
-          → PartsLaid text all runs₀ trits₀ so₀ operandLaying.Full runs' trits'
+      pub walks_full : {runs' trits' : List ℕ} → Grows so₀.runs runs trits so (part_bits text p.part) None runs' trits'
+          → PartsLaid text all runs₀ trits₀ so₀ None runs' trits'
       walks_full {runs'} {trits'} g =
-          let f : Grows so₀.runs runs₀ trits₀ so₀ (bits_of text all) laying.Full runs' trits' = turned_full (part_bits text p.part) (bits_of text rest) on_turn g in
+          let f : Grows so₀.runs runs₀ trits₀ so₀ (bits_of text all) None runs' trits' = turned_full (part_bits text p.part) (bits_of text rest) on_turn g in
           record { laid = λ rs h. f.behind rs [] (open_none h); tells = tt }
 
 -- AN OPERAND THAT IS ONE PART
@@ -164,12 +161,12 @@ module _ (text : List ℕ) (p : PartAt) (i : PartIn text p.part) {runs₀ trits�
   pub alone_fits : PartsFit (p ∷ []) runs₀ trits₀ so₀ → Opened so₀.runs runs₀ trits₀ so₀ (part_width p.part)
   alone_fits h = (walks_fits text (p ∷ []) runs₀ trits₀ so₀ p [] alone_walks h).1
 
-  pub alone_laid : {runs trits : List ℕ} {so : Laid} {bare : Bool} → Grows so₀.runs runs₀ trits₀ so₀ (part_bits text p.part) (laying.Laid so) runs trits
-      → bare ≡ is_bare p → PartsLaid text (p ∷ []) runs₀ trits₀ so₀ (operandLaying.Laid so bare) runs trits
+  pub alone_laid : {runs trits : List ℕ} {so : Laid} {bare : Bool} → Grows so₀.runs runs₀ trits₀ so₀ (part_bits text p.part) (Some so) runs trits
+      → bare ≡ is_bare p → PartsLaid text (p ∷ []) runs₀ trits₀ so₀ (Some (so, bare)) runs trits
   alone_laid g b = walks_done text (p ∷ []) runs₀ trits₀ so₀ (walks_more text (p ∷ []) runs₀ trits₀ so₀ p [] alone_walks g b)
 
-  pub alone_full : {runs trits : List ℕ} → Grows so₀.runs runs₀ trits₀ so₀ (part_bits text p.part) laying.Full runs trits
-      → PartsLaid text (p ∷ []) runs₀ trits₀ so₀ operandLaying.Full runs trits
+  pub alone_full : {runs trits : List ℕ} → Grows so₀.runs runs₀ trits₀ so₀ (part_bits text p.part) None runs trits
+      → PartsLaid text (p ∷ []) runs₀ trits₀ so₀ None runs trits
   alone_full g = walks_full text (p ∷ []) runs₀ trits₀ so₀ p [] alone_walks g
 
 -- THE OPERAND, by its first token
@@ -178,11 +175,11 @@ module _ (text : List ℕ) (o : Operand) where
   unfolding parts_at
   at_none g = rw g
 
-  pub at_refused : o.given ≡ true → (f : Refusal) → token_at text o.at ≡ step.Refused f → [] ≡ parts_at text o
+  pub at_refused : o.given ≡ true → (f : Refusal) → token_at text o.at ≡ Err f → [] ≡ parts_at text o
   unfolding parts_at
   at_refused g f e = rw (g, e)
 
-  module _ (given : o.given ≡ true) (t : Token) (r : Reader) (e : token_at text o.at ≡ step.Took t r) where
+  module _ (given : o.given ≡ true) (t : Token) (r : Reader) (e : token_at text o.at ≡ Ok (t, r)) where
     pub at_alone : is_part t ≡ true → token_part t ∷ [] ≡ parts_at text o
     unfolding parts_at
     at_alone is = rw (given, e, is)
@@ -199,10 +196,10 @@ module _ (text : List ℕ) (o : Operand) where
     operand_fits h narrow room = rw whole record { held = h; narrow = narrow; room = room }
 
     -- what a finished operand leaves
-    pub operand_laid : {r : OperandLaying} {runs' trits' : List ℕ} → PartsLaid text ps runs trits so r runs' trits'
+    pub operand_laid : {r : Option (Laid × Bool)} {runs' trits' : List ℕ} → PartsLaid text ps runs trits so r runs' trits'
         → ((rs : List Run) → Holds rs runs trits so → After rs (operand_runs text o) r runs' trits') × TellsBare (some_bare (parts_at text o)) r
     unfolding operand_runs
     operand_laid l = let m = rw whole at l in (m.laid, m.tells)
 
-pub nothing_laid : (text runs trits : List ℕ) (so : Laid) → PartsLaid text [] runs trits so (operandLaying.Laid so false) runs trits
+pub nothing_laid : (text runs trits : List ℕ) (so : Laid) → PartsLaid text [] runs trits so (Some (so, false)) runs trits
 nothing_laid text runs trits so = walks_done text [] runs trits so (walks_none text [] runs trits so none)

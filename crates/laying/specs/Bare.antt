@@ -1,6 +1,7 @@
 -- Parts without bits, and what the runs of an operand tell of its pieces. A part without bits leaves no run, so rule 14 can't be asked
 -- of the runs alone where an operand has one.
-use Rattle.std.specs.Prelude.{ℕ, ◌+◌, ◌-◌, ◌≤◌, ◌≡◌, Bool, true, false, ◌&&◌, ◌||◌, List, [], ◌∷◌, leb, eqb}
+use Rattle.laying.specs.declared.Counts.{Counts}
+use Rattle.std.specs.Prelude.{ℕ, ◌+◌, ◌-◌, ◌≤◌, ◌≡◌, Bool, true, false, ◌&&◌, ◌||◌, List, [], ◌∷◌, leb, eqb, Option, Some, None}
 use Rattle.std.proofs.Math.Option.{none}
 use Rattle.ground.specs.Lists.{every, joined}
 use Rattle.lexis.specs.declared.Token.{Token}
@@ -14,10 +15,6 @@ use Rattle.saying.specs.Values.{row_of, part_bits}
 use Rattle.saying.specs.Pieces.{PieceAt, first_unresolved}
 use Rattle.laying.specs.Holding.{Holds, Held, After}
 use Rattle.laying.specs.declared.Laid.{Laid}
-use Rattle.laying.specs.declared.OperandLaying.{OperandLaying}
-use Rattle.laying.specs.declared.OperandLaying.TheVariants as operandLaying
-use Rattle.laying.specs.declared.CellLaying.{CellLaying}
-use Rattle.laying.specs.declared.CellLaying.TheVariants as cellLaying
 
 -- a piece of width 0, or a repetition by 0
 abbrev pub is_bare : PartAt → Bool
@@ -37,16 +34,16 @@ pub record Covers (rs : List Run) (pieces : List PieceAt) : Type 0 where
   pub all : (numbers widths : List ℕ) → every (run_resolves numbers widths) rs ≡ true → first_unresolved numbers widths pieces ≡ none
 
 -- THE ANSWERS: an operand's, and a cell's, tell whether a part has no bits
-abbrev pub TellsBare : Bool → OperandLaying → Type 0
-TellsBare b (operandLaying.Laid so bare) = bare ≡ b
-TellsBare b operandLaying.Full = Unit {0}
+abbrev pub TellsBare : Bool → Option (Laid × Bool) → Type 0
+TellsBare b (Some (so, bare)) = bare ≡ b
+TellsBare b None = Unit {0}
 
 abbrev pub cell_bare : List ℕ → Wiring → Bool
 cell_bare text w = some_bare (parts_at text w.a) || (some_bare (parts_at text w.b) || some_bare (parts_at text w.c))
 
-abbrev pub CellTellsBare : Bool → CellLaying → Type 0
-CellTellsBare b (cellLaying.Laid n) = n.bare ≡ b
-CellTellsBare b cellLaying.Full = Unit {0}
+abbrev pub CellTellsBare : Bool → Option Counts → Type 0
+CellTellsBare b (Some n) = n.bare ≡ b
+CellTellsBare b None = Unit {0}
 
 -- the part that a token is
 abbrev pub token_part : Token → PartAt
@@ -59,6 +56,6 @@ pub record PartsFit (ps : List PartAt) (runs trits : List ℕ) (so : Laid) : Typ
   pub room : so.trits + widths ps ≤ 262656
 
 -- their runs stand behind those that stood, or there are too many; and the answer tells whether one has no bits
-pub record PartsLaid (text : List ℕ) (ps : List PartAt) (runs trits : List ℕ) (so : Laid) (r : OperandLaying) (runs' trits' : List ℕ) : Type 0 where
+pub record PartsLaid (text : List ℕ) (ps : List PartAt) (runs trits : List ℕ) (so : Laid) (r : Option (Laid × Bool)) (runs' trits' : List ℕ) : Type 0 where
   pub laid : (rs : List Run) → Holds rs runs trits so → After rs (cut (joined (λ p. part_bits text p.part) ps)) r runs' trits'
   pub tells : TellsBare (some_bare ps) r

@@ -1,5 +1,5 @@
 -- An operand while it is laid: of its bits those before some place are laid, as longest runs.
-use Rattle.std.specs.Prelude.{◌≡◌, List, [], ◌∷◌, ◌++◌, ℕ, ◌+◌, ◌-◌, ◌*◌, ◌≤◌, ◌<◌, Bool, false, ltb, eqb, length, get_or}
+use Rattle.std.specs.Prelude.{◌≡◌, List, [], ◌∷◌, ◌++◌, ℕ, ◌+◌, ◌-◌, ◌*◌, ◌≤◌, ◌<◌, Bool, false, ltb, eqb, length, get_or, Option, Some, None}
 use Rattle.std.proofs.lemmas.List.Edits.{sets}
 use Rattle.ground.specs.Choice.{pick}
 use Rattle.brackets.specs.Parts.{PartAt}
@@ -11,8 +11,6 @@ use Rattle.netlist.specs.Netlist.{Run, run_bits_of}
 use Rattle.netlist.specs.Runs.{Bit, cut}
 use Rattle.laying.specs.Holding.{Holds}
 use Rattle.laying.specs.declared.Laid.{Laid}
-use Rattle.laying.specs.declared.Laying.{Laying}
-use Rattle.laying.specs.declared.Laying.TheVariants as laying
 
 -- behind the runs rs stand those of the operand's bits `done`, its first run at the row `first`
 pub record Open (rs : List Run) (done : List Bit) (first : ℕ) (runs trits : List ℕ) (so : Laid) : Type 0 where
@@ -32,12 +30,12 @@ pub record OpenedRows (first : ℕ) (runs : List ℕ) (so : Laid) (n : ℕ) : Ty
   pub trits : List ℕ
   pub opened : Opened first runs trits so n
 
-abbrev pub Grown : List Run → List Bit → ℕ → Laying → List ℕ → List ℕ → Type 0
-Grown rs done first (laying.Laid so) runs trits = Open rs done first runs trits so
-Grown rs done first laying.Full runs trits = 4096 < length (rs ++ cut done)
+abbrev pub Grown : List Run → List Bit → ℕ → Option Laid → List ℕ → List ℕ → Type 0
+Grown rs done first (Some so) runs trits = Open rs done first runs trits so
+Grown rs done first None runs trits = 4096 < length (rs ++ cut done)
 
 -- the bits `new` are laid behind whatever bits of the operand were laid; or the rows do not hold them
-pub record Grows (first : ℕ) (runs trits : List ℕ) (so : Laid) (new : List Bit) (r : Laying) (runs' trits' : List ℕ) : Type 0 where
+pub record Grows (first : ℕ) (runs trits : List ℕ) (so : Laid) (new : List Bit) (r : Option Laid) (runs' trits' : List ℕ) : Type 0 where
   pub behind : (rs : List Run) (done : List Bit) → Open rs done first runs trits so → Grown rs (done ++ new) first r runs' trits'
 
 -- where the last run's row begins, and whether the operand has a last run that says `head`, and `from` where that matters
@@ -57,9 +55,9 @@ pub record NewRow (runs : List ℕ) (so : Laid) (row : List ℕ) (size : ℕ) (s
   pub count : so'.runs ≡ so.runs + 1
   pub filled : so'.trits ≡ so.trits + size
 
-abbrev pub Added : List ℕ → Laid → List ℕ → ℕ → Laying → List ℕ → Type 0
-Added runs so row size (laying.Laid so') runs' = NewRow runs so row size so' runs'
-Added runs so row size laying.Full runs' = so.runs ≡ 4096
+abbrev pub Added : List ℕ → Laid → List ℕ → ℕ → Option Laid → List ℕ → Type 0
+Added runs so row size (Some so') runs' = NewRow runs so row size so' runs'
+Added runs so row size None runs' = so.runs ≡ 4096
 
 -- a constant lies inside the text; the numbers of a piece are at most 65,535
 abbrev pub BaseIn : List ℕ → Base → Type 0

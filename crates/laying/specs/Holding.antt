@@ -1,5 +1,5 @@
 -- Runs in the run rows and the run trits of the tables, and what laying an operand or a cell leaves there.
-use Rattle.std.specs.Prelude.{◌≡◌, List, ◌++◌, ℕ, ◌+◌, ◌≤◌, ◌<◌, length}
+use Rattle.std.specs.Prelude.{Bool, ◌≡◌, List, ◌++◌, ℕ, ◌+◌, ◌≤◌, ◌<◌, length, Option, Some, None}
 use Rattle.ground.specs.Regions.{pad}
 use Rattle.brackets.specs.Parts.{parts_at}
 use Rattle.form.specs.declared.Wiring.{Wiring}
@@ -7,11 +7,7 @@ use Rattle.brackets.proofs.Sums.{widths}
 use Rattle.netlist.specs.Netlist.{Run, run_bits_of}
 use Rattle.netlist.specs.Tables.{run_rows}
 use Rattle.laying.specs.declared.Laid.{Laid}
-use Rattle.laying.specs.declared.OperandLaying.{OperandLaying}
-use Rattle.laying.specs.declared.OperandLaying.TheVariants as operandLaying
 use Rattle.laying.specs.declared.Counts.{Counts}
-use Rattle.laying.specs.declared.CellLaying.{CellLaying}
-use Rattle.laying.specs.declared.CellLaying.TheVariants as cellLaying
 
 -- the two regions hold just these runs, and zeros behind them
 pub record Holds (rs : List Run) (runs trits : List ℕ) (so : Laid) : Type 0 where
@@ -27,9 +23,9 @@ pub record Held (runs trits : List ℕ) (so : Laid) : Type 0 where
   pub holds : Holds rs runs trits so
 
 -- the new runs stand behind the old ones; or there are more than 4,096
-abbrev pub After : List Run → List Run → OperandLaying → List ℕ → List ℕ → Type 0
-After rs new (operandLaying.Laid so bare) runs trits = Holds (rs ++ new) runs trits so
-After rs new operandLaying.Full runs trits = 4096 < length (rs ++ new)
+abbrev pub After : List Run → List Run → Option (Laid × Bool) → List ℕ → List ℕ → Type 0
+After rs new (Some (so, bare)) runs trits = Holds (rs ++ new) runs trits so
+After rs new None runs trits = 4096 < length (rs ++ new)
 
 -- the three operands of a cell are no wider than an operand may be, and there is room for their trits
 pub record Room (text : List ℕ) (w : Wiring) (so : Laid) : Type 0 where
@@ -45,6 +41,6 @@ pub record Counted (rs ra rb rc : List Run) (n : Counts) (runs trits : List ℕ)
   pub c : n.c ≡ length rc
   pub holds : Holds (rs ++ (ra ++ (rb ++ rc))) runs trits n.so
 
-abbrev pub CellAfter : List Run → List Run → List Run → List Run → CellLaying → List ℕ → List ℕ → Type 0
-CellAfter rs ra rb rc (cellLaying.Laid n) runs trits = Counted rs ra rb rc n runs trits
-CellAfter rs ra rb rc cellLaying.Full runs trits = 4096 < length (rs ++ (ra ++ (rb ++ rc)))
+abbrev pub CellAfter : List Run → List Run → List Run → List Run → Option Counts → List ℕ → List ℕ → Type 0
+CellAfter rs ra rb rc (Some n) runs trits = Counted rs ra rb rc n runs trits
+CellAfter rs ra rb rc None runs trits = 4096 < length (rs ++ (ra ++ (rb ++ rc)))

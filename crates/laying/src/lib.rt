@@ -9,21 +9,8 @@ pub struct Laid {
     pub trits: usize,
 }
 
-// What is in use now; or a run more than 4,096 would be needed.
-#[derive(Clone, Copy)]
-pub enum Laying {
-    Laid(Laid),
-    Full,
-}
-
-// An operand: what is in use now, and whether one of its parts has no bits.
-#[derive(Clone, Copy)]
-pub enum OperandLaying {
-    Laid(Laid, bool),
-    Full,
-}
-
-// The runs of a cell's three operands, what is in use now, and whether a part of an operand has no bits.
+// The runs of a cell's three operands, what is in use now, and whether a part of an operand has no bits. That flag is a fact of its own: the
+// counts count either way.
 #[derive(Clone, Copy)]
 pub struct Counts {
     pub a: usize,
@@ -31,10 +18,4 @@ pub struct Counts {
     pub c: usize,
     pub so: Laid,
     pub bare: bool,
-}
-
-#[derive(Clone, Copy)]
-pub enum CellLaying {
-    Laid(Counts),
-    Full,
 }

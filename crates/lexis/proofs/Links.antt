@@ -1,4 +1,7 @@
 -- References by their index, and single bytes: the token that stands where they are found.
+use Rattle.lexis.specs.declared.Token.{Token}
+use Rattle.lexis.specs.Took.{Took}
+use Rattle.std.specs.Prelude.{Some, None}
 use mathlib.Core.Path.{◌≡◌, refl, sym, ap, ◌∙◌}
 use mathlib.Core.Bool.{Bool, true, false, not, ◌&&◌}
 use mathlib.Core.List.{List}
@@ -11,26 +14,25 @@ use Rattle.ground.specs.Choice.{pick}
 use Rattle.ground.proofs.Bools.{bool_cases, never_both, and_true}
 use Rattle.signs.specs.Bytes.{class_of, class_from, is_white, is_special, is_feed}
 use Rattle.signs.specs.Pieces.{span_end, inside_end, numeral_at, part_limit}
-use Rattle.lexis.specs.Tokens.{meta, mark, line_end, took, plain, judged, meta_of, long_of, follows, standing_at, token_at, inside_at, no_link, link_of, link_at, byte_end}
+use Rattle.lexis.specs.Tokens.{meta, mark, line_end, took, plain, judged, meta_of, long_of, follows, standing_at, token_at, inside_at, link, link_of, link_at, byte_end}
 use Rattle.lexis.specs.declared.Link.{Link}
-use Rattle.lexis.specs.declared.Step.{Step}
 use Rattle.lexis.proofs.Cells.{not_true}
 use Rattle.signs.proofs.Laws.{in_text}
 use Rattle.lexis.proofs.Standing.{standing_at_lem}
 
 -- the step of a reference that is found
-abbrev linked : Link → Step
+abbrev linked : Link → Took Token
 linked l = took (plain meta l.at l.index 0 0) l.end
 
-judged_link : (m l : Bool) (k v e : ℕ) → (link_of (judged m l k (took (plain meta k v 0 0) e))).found ≡ true
-    → judged m l k (took (plain meta k v 0 0) e) ≡ linked (link_of (judged m l k (took (plain meta k v 0 0) e)))
-judged_link true l k v e f = never_both f refl
-judged_link false true k v e f = never_both f refl
-judged_link false false k v e f = refl
+judged_link : (m l : Bool) (k v e : ℕ) (j : Link) → link_of (judged m l k (took (plain meta k v 0 0) e)) ≡ Some j
+    → judged m l k (took (plain meta k v 0 0) e) ≡ linked j
+judged_link true l k v e j f = cc
+judged_link false true k v e j f = cc
+judged_link false false k v e j f = let q : link v k e ≡ j = cc in ap linked q
 
-meta_linked : (text : List ℕ) (k : ℕ) → (link_of (meta_of text k)).found ≡ true → meta_of text k ≡ linked (link_of (meta_of text k))
+meta_linked : (text : List ℕ) (k : ℕ) (j : Link) → link_of (meta_of text k) ≡ Some j → meta_of text k ≡ linked j
 unfolding meta_of
-meta_linked text k f = let i = numeral_at part_limit text (k + 1) in judged_link (eqb i.end (k + 1)) i.large k i.value i.end f
+meta_linked text k j f = let i = numeral_at part_limit text (k + 1) in judged_link (eqb i.end (k + 1)) i.large k i.value i.end j f
 
 module _ (text : List ℕ) (k : ℕ) where
   -- `!` begins a reference
@@ -38,12 +40,11 @@ module _ (text : List ℕ) (k : ℕ) where
   unfolding long_of class_of class_from
   meta_standing b f = standing_at_lem text k (in_text text k (omega arith)) ∙ rw (b, f)
 
-  found : (pick (eqb (get_or text k 0) 33 && not (follows text k)) (link_of (meta_of text k)) no_link).found ≡ true
-      → standing_at text k ≡ linked (pick (eqb (get_or text k 0) 33 && not (follows text k)) (link_of (meta_of text k)) no_link)
-  found e = bool_cases (eqb (get_or text k 0) 33 && not (follows text k))
+  found : (j : Link) → pick (eqb (get_or text k 0) 33 && not (follows text k)) (link_of (meta_of text k)) None ≡ Some j → standing_at text k ≡ linked j
+  found j e = bool_cases (eqb (get_or text k 0) 33 && not (follows text k))
       (λ h. let m = and_true (eqb (get_or text k 0) 33) (not (follows text k)) h in
-      rw h (meta_standing (eqb-true _ _ m.0) (not_true _ m.1) ∙ meta_linked text k (rw h at e)))
-      (λ h. never_both (rw h at e) refl)
+      meta_standing (eqb-true _ _ m.0) (not_true _ m.1) ∙ meta_linked text k j (rw h at e))
+      (λ h. let z = rw h at e in cc)
 
   -- a line feed ends a line
   feed_standing : get_or text k 0 ≡ 10 → standing_at text k ≡ took (plain line_end k 0 0 0) (k + 1)
@@ -105,6 +106,6 @@ pub bracket_special : is_special 91 ≡ true
 unfolding class_of class_from
 bracket_special = refl
 
-pub link_found : (text : List ℕ) (at : ℕ) → (link_at text at).found ≡ true → inside_at text at ≡ linked (link_at text at)
+pub link_found : (text : List ℕ) (at : ℕ) (j : Link) → link_at text at ≡ Some j → inside_at text at ≡ linked j
 unfolding link_at inside_at
-link_found text at e = found text (inside_end (drop at text) false at) e
+link_found text at j e = found text (inside_end (drop at text) false at) j e

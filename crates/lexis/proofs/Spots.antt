@@ -1,4 +1,6 @@
 -- Cell identifiers by their numbers: which tokens have them, and the token that stands where they are found.
+use Rattle.lexis.specs.Took.{Took}
+use Rattle.std.specs.Prelude.{Ok, Err}
 use mathlib.Core.Path.{◌≡◌, refl, sym, ap, ◌∙◌}
 use mathlib.Core.Bool.{Bool, true, false, not, ◌&&◌, ◌||◌}
 use mathlib.Core.List.{List}
@@ -17,14 +19,12 @@ use Rattle.signs.specs.declared.pieces.Numeral.{Numeral}
 use Rattle.signs.specs.declared.pieces.Suffix.{Suffix}
 use Rattle.lexis.specs.declared.Spot.{Spot}
 use Rattle.lexis.specs.declared.Token.{Token}
-use Rattle.lexis.specs.declared.Step.{Step}
-use Rattle.lexis.specs.declared.Step.TheVariants.{Took, Refused}
 use Rattle.lexis.proofs.Cells.{not_true}
 use Rattle.signs.proofs.Laws.{in_text, numeral_stop}
 use Rattle.lexis.proofs.Standing.{standing_at_lem}
 
 -- WHAT HAS NO NUMBERS: a refusal, a placeholder, a repetition
-judged_none : (m l : Bool) (k : ℕ) (s : Step) → m || l ≡ true → spot_of (judged m l k s) ≡ no_spot false
+judged_none : (m l : Bool) (k : ℕ) (s : Took Token) → m || l ≡ true → spot_of (judged m l k s) ≡ no_spot false
 judged_none true l k s e = refl
 judged_none false true k s e = refl
 judged_none false false k s e = never_both e refl
@@ -47,7 +47,7 @@ plain_few false true = refl
 plain_few false false = refl
 
 -- the cell identifier or the placeholder of an index and parts
-abbrev cell_read : List ℕ → ℕ → Numeral → Suffix → Suffix → Suffix → Step
+abbrev cell_read : List ℕ → ℕ → Numeral → Suffix → Suffix → Suffix → Took Token
 cell_read text k i o w c = pick (opens_placeholder text i.end) (placeholder_from k i) (cell_from k i o w c)
 
 module _ (k : ℕ) (i : Numeral) (o w c : Suffix) where
@@ -173,7 +173,7 @@ module _ (text : List ℕ) (k : ℕ) (i : Numeral) (ei : i ≡ numeral_at part_l
           out (spot i.value o.value w.value w.end) (rw (c, v, as_second) (good_spot text k i first second (ne_eqb _ _ n) l fo fw p))
 
 -- THE TOKEN WHERE A CELL IDENTIFIER IS FOUND by its numbers
-pub record Spotted (s : Spot) (r : Step) : Type 0 where
+pub record Spotted (s : Spot) (r : Took Token) : Type 0 where
   pub taken : Token
   pub is : r ≡ took taken s.end
   pub sort : eqb taken.sort cell ≡ true
@@ -182,15 +182,15 @@ pub record Spotted (s : Spot) (r : Step) : Type 0 where
   pub from : taken.offset ≡ s.offset
   pub wide : taken.width ≡ s.width
 
-step_spotted : (s : Step) → (spot_of s).found ≡ true → Spotted (spot_of s) s
-step_spotted (Refused g) e = never_both e refl
-step_spotted (Took t r) e = bool_cases (eqb t.sort cell && ltb t.parts 4)
+step_spotted : (s : Took Token) → (spot_of s).found ≡ true → Spotted (spot_of s) s
+step_spotted (Err g) e = never_both e refl
+step_spotted (Ok (t, r)) e = bool_cases (eqb t.sort cell && ltb t.parts 4)
     (λ h. let m = and_true (eqb t.sort cell) (ltb t.parts 4) h in rw h record { taken = t; is = refl; sort = m.0; few = m.1; value = refl; from = refl; wide = refl })
     (λ h. never_both (rw h at e) refl)
 
-step_open : (s : Step) → (spot_of s).closed ≡ false
-step_open (Refused g) = refl
-step_open (Took t r) = bool_cases (eqb t.sort cell && ltb t.parts 4) (λ h. rw h) (λ h. rw h)
+step_open : (s : Took Token) → (spot_of s).closed ≡ false
+step_open (Err g) = refl
+step_open (Ok (t, r)) = bool_cases (eqb t.sort cell && ltb t.parts 4) (λ h. rw h) (λ h. rw h)
 
 module _ (text : List ℕ) (k : ℕ) where
   -- `%` begins a cell identifier

@@ -26,12 +26,8 @@ pub struct Token {
     pub count: u32,
 }
 
-// A token together with the moved reader, or a refusal with its place.
-#[derive(Clone, Copy)]
-pub enum Step {
-    Took(Token, Reader),
-    Refused(Refusal),
-}
+// What was taken, and the reader past it; or a refusal with its place.
+pub type Took<T> = Result<(T, Reader), Refusal>;
 
 // A cell identifier between brackets, without a count, by its numbers and the place past it; `closed` where `]` stands there instead.
 #[derive(Clone, Copy)]
@@ -47,7 +43,6 @@ pub struct Spot {
 // A reference between brackets: its index, its place and the place past it.
 #[derive(Clone, Copy)]
 pub struct Link {
-    pub found: bool,
     pub index: u32,
     pub at: usize,
     pub end: usize,

@@ -1,31 +1,30 @@
 // The tokens, each by the bytes that begin it, and the reader that goes from token to token.
 ghost use Rattle.std.specs.Prelude.{◌≡◌, true, false, not, ◌||◌, ◌+◌, ◌<◌, ◌≤◌, eqb, length};
 ghost use Rattle.ground.specs.Choice.{pick};
-ghost use Rattle.signs.specs.Bytes.{table};
 ghost use Rattle.signs.specs.Pieces.{quoted_at};
 ghost use Rattle.lexis.specs.Tokens.{written, took, plain, refused, single, signed_of, meta_of, number_of, constant_from, constant_of, cell_took, cell_from, opens_placeholder, cell_of, io_from, named_from, floating_from, io_of, string_step, word_of, long_of, follows, standing_at, token_at, inside_at};
 
-use crate::{Reader, Step, Token};
+use crate::{Reader, Token, Took};
 use ground::{Place, Refusal};
 use numerals::{count_at, numeral_at, offset_at, width_at};
-use signs::classes::{class_at, classes};
-use signs::pieces::{Numeral, Quoted, Suffix, between, byte_at, in_classes};
+use signs::classes::Classes;
+use signs::pieces::{Numeral, Suffix, between, byte_at, in_classes};
 use spans::{comment_end, inside_end, span};
 use strings::quoted_at;
 
-fn refused(number: u8, k: usize) -> Step
+fn refused(number: u8, k: usize) -> Took<Token>
     ensures { result ≡ refused number k }
 {
-    Step::Refused(Refusal {
+    Err(Refusal {
         number,
         place: Place { at: k },
     })
 }
 
-fn took_plain(sort: u8, k: usize, value: u32, from: usize, size: usize, end: usize) -> Step
+fn took_plain(sort: u8, k: usize, value: u32, from: usize, size: usize, end: usize) -> Took<Token>
     ensures { result ≡ took (plain sort k value from size) end }
 {
-    Step::Took(
+    Ok((
         Token {
             sort,
             place: Place { at: k },
@@ -40,16 +39,7 @@ fn took_plain(sort: u8, k: usize, value: u32, from: usize, size: usize, end: usi
         Reader {
             next: Place { at: end },
         },
-    )
-}
-
-fn either(a: bool, b: bool) -> bool
-    ensures { result ≡ (a || b) }
-{
-    if a {
-        return true;
-    }
-    b
+    ))
 }
 
 fn part_bit(given: bool, n: u8) -> u8
@@ -69,7 +59,7 @@ fn written_parts(o: bool, w: bool, c: bool) -> u8
 }
 
 // A token that is one numeral.
-fn one_numeral(sort: u8, k: usize, from: usize, i: Numeral, value: u32, end: usize) -> Step
+fn one_numeral(sort: u8, k: usize, from: usize, i: Numeral, value: u32, end: usize) -> Took<Token>
     ensures { result ≡ single sort k from i value end }
 {
     if i.end == from {
@@ -81,7 +71,8 @@ fn one_numeral(sort: u8, k: usize, from: usize, i: Numeral, value: u32, end: usi
     took_plain(sort, k, value, 0, 0, end)
 }
 
-fn meta(text: &[u8], k: usize) -> Step
+#[tactic(auto, unfolding(crate::specs::Tokens::meta_of))]
+fn meta(text: &[u8], k: usize) -> Took<Token>
     requires { k < length text.now }
     ensures { result ≡ meta_of text.now k }
 {
@@ -103,7 +94,8 @@ fn signed(minus: bool, n: u32) -> u32
     n
 }
 
-fn number(text: &[u8], k: usize) -> Step
+#[tactic(auto, unfolding(crate::specs::Tokens::number_of))]
+fn number(text: &[u8], k: usize) -> Took<Token>
     requires { k < length text.now }
     ensures { result ≡ number_of text.now k }
 {
@@ -118,27 +110,27 @@ fn number(text: &[u8], k: usize) -> Step
     one_numeral(5, k, from, i, signed(false, i.value), i.end)
 }
 
-fn word(t: &[u8; 256], text: &[u8], k: usize) -> Step
-    requires { t.now ≡ table }
+#[tactic(auto, unfolding(crate::specs::Tokens::word_of))]
+fn word(t: &Classes, text: &[u8], k: usize) -> Took<Token>
     ensures { result ≡ word_of text.now k }
 {
     let e = span(t, text, k, 7, 8);
     took_plain(3, k, 0, k, e - k, e)
 }
 
-fn string(t: &[u8; 256], text: &[u8], quote: usize) -> Step
-    requires { (t.now ≡ table) × (quote < length text.now) }
+fn string(t: &Classes, text: &[u8], quote: usize) -> Took<Token>
+    requires { quote < length text.now }
     ensures { result ≡ string_step quote (quoted_at text.now (quote + 1)) }
 {
     let from = quote + 1;
     match quoted_at(t, text, from) {
-        Quoted::Closed { size, end } => took_plain(9, quote, 0, from, size, end),
-        Quoted::Malformed => refused(5, quote),
+        Some((size, end)) => took_plain(9, quote, 0, from, size, end),
+        None => refused(5, quote),
     }
 }
 
 // The constant from k to e, with the count behind it.
-fn constant_from(k: usize, e: usize, times: Suffix) -> Step
+fn constant_from(k: usize, e: usize, times: Suffix) -> Took<Token>
     requires { k ≤ e }
     ensures { result ≡ constant_from k e times }
 {
@@ -149,7 +141,7 @@ fn constant_from(k: usize, e: usize, times: Suffix) -> Step
         return refused(6, k);
     }
     let parts = written_parts(false, false, times.given);
-    Step::Took(
+    Ok((
         Token {
             sort: 4,
             place: Place { at: k },
@@ -164,11 +156,11 @@ fn constant_from(k: usize, e: usize, times: Suffix) -> Step
         Reader {
             next: Place { at: times.end },
         },
-    )
+    ))
 }
 
-fn constant(t: &[u8; 256], text: &[u8], k: usize) -> Step
-    requires { t.now ≡ table }
+#[tactic(auto, unfolding(crate::specs::Tokens::constant_of))]
+fn constant(t: &Classes, text: &[u8], k: usize) -> Took<Token>
     ensures { result ≡ constant_of text.now k }
 {
     let e = span(t, text, k, 5, 6);
@@ -186,12 +178,12 @@ fn or_one(given: bool, value: u32) -> u32
 }
 
 // The cell identifier of good index and parts.
-fn cell_took(k: usize, i: Numeral, o: Suffix, w: Suffix, c: Suffix) -> Step
+fn cell_took(k: usize, i: Numeral, o: Suffix, w: Suffix, c: Suffix) -> Took<Token>
     ensures { result ≡ cell_took k i o w c }
 {
     let parts = written_parts(o.given, w.given, c.given);
     let width = or_one(w.given, w.value);
-    Step::Took(
+    Ok((
         Token {
             sort: 8,
             place: Place { at: k },
@@ -206,18 +198,18 @@ fn cell_took(k: usize, i: Numeral, o: Suffix, w: Suffix, c: Suffix) -> Step
         Reader {
             next: Place { at: c.end },
         },
-    )
+    ))
 }
 
 // The cell identifier whose index i begins at `from`, with its parts.
-fn cell_from(k: usize, from: usize, i: Numeral, o: Suffix, w: Suffix, c: Suffix) -> Step
+fn cell_from(k: usize, from: usize, i: Numeral, o: Suffix, w: Suffix, c: Suffix) -> Took<Token>
     requires { from ≡ k + 1 }
     ensures { result ≡ cell_from k i o w c }
 {
-    if either(i.end == from, either(o.broken, either(w.broken, c.broken))) {
+    if i.end == from || o.broken || w.broken || c.broken {
         return refused(5, k);
     }
-    if either(i.large, either(o.large, either(w.large, c.large))) {
+    if i.large || o.large || w.large || c.large {
         return refused(6, k);
     }
     cell_took(k, i, o, w, c)
@@ -239,7 +231,8 @@ fn opens_placeholder(text: &[u8], k: usize) -> bool
 }
 
 // Any cell identifier or placeholder: a part further on may be malformed where one before it is too large.
-fn cell_any(text: &[u8], k: usize) -> Step
+#[tactic(auto, unfolding(crate::specs::Tokens::cell_of))]
+fn cell_any(text: &[u8], k: usize) -> Took<Token>
     requires { k < length text.now }
     ensures { result ≡ cell_of text.now k }
 {
@@ -286,7 +279,7 @@ fn good_part(s: Suffix) -> bool
 }
 
 // A cell identifier whose parts are good as they are read needs no look back at them. Anything else is read again.
-fn cell(text: &[u8], k: usize) -> Step
+fn cell(text: &[u8], k: usize) -> Took<Token>
     requires { k < length text.now }
     ensures { result ≡ cell_of text.now k }
 {
@@ -319,19 +312,19 @@ fn later(given: bool, a: usize, b: usize) -> usize
 }
 
 // The name of `size` bytes that begins at `from`, with its parts.
-fn io_from(k: usize, from: usize, size: usize, o: Suffix, w: Suffix) -> Step
+fn io_from(k: usize, from: usize, size: usize, o: Suffix, w: Suffix) -> Took<Token>
     requires { from ≡ k + 2 }
     ensures { result ≡ io_from k size o w }
 {
-    if either(o.broken, w.broken) {
+    if o.broken || w.broken {
         return refused(5, k);
     }
-    if either(o.large, w.large) {
+    if o.large || w.large {
         return refused(6, k);
     }
     let parts = written_parts(o.given, w.given, false);
     let end = later(o.given, o.end, w.end);
-    Step::Took(
+    Ok((
         Token {
             sort: 7,
             place: Place { at: k },
@@ -346,25 +339,25 @@ fn io_from(k: usize, from: usize, size: usize, o: Suffix, w: Suffix) -> Step
         Reader {
             next: Place { at: end },
         },
-    )
+    ))
 }
 
-fn named(t: &[u8; 256], text: &[u8], k: usize) -> Step
-    requires { (t.now ≡ table) × (k < length text.now) }
+fn named(t: &Classes, text: &[u8], k: usize) -> Took<Token>
+    requires { k < length text.now }
     ensures { result ≡ named_from text.now k (quoted_at text.now (k + 2)) }
 {
     let from = k + 2;
     match quoted_at(t, text, from) {
-        Quoted::Closed { size, end } => {
+        Some((size, end)) => {
             let o = offset_at(text, end);
             let w = width_at(text, end);
             io_from(k, from, size, o, w)
         }
-        Quoted::Malformed => refused(5, k),
+        None => refused(5, k),
     }
 }
 
-fn floating(k: usize, w: Suffix) -> Step
+fn floating(k: usize, w: Suffix) -> Took<Token>
     ensures { result ≡ floating_from k w }
 {
     if w.broken {
@@ -374,7 +367,7 @@ fn floating(k: usize, w: Suffix) -> Step
         return refused(6, k);
     }
     let parts = written_parts(false, w.given, false);
-    Step::Took(
+    Ok((
         Token {
             sort: 11,
             place: Place { at: k },
@@ -389,11 +382,12 @@ fn floating(k: usize, w: Suffix) -> Step
         Reader {
             next: Place { at: w.end },
         },
-    )
+    ))
 }
 
-fn io(t: &[u8; 256], text: &[u8], k: usize) -> Step
-    requires { (t.now ≡ table) × (k < length text.now) }
+#[tactic(auto, unfolding(crate::specs::Tokens::io_of))]
+fn io(t: &Classes, text: &[u8], k: usize) -> Took<Token>
+    requires { k < length text.now }
     ensures { result ≡ io_of text.now k }
 {
     let b = byte_at(text, k + 1);
@@ -409,8 +403,8 @@ fn io(t: &[u8; 256], text: &[u8], k: usize) -> Step
 
 // A token that the byte b begins and that is no line end and no special character. Most are cell identifiers, so these are asked
 // for first.
-fn long(t: &[u8; 256], text: &[u8], k: usize, b: u8) -> Step
-    requires { (t.now ≡ table) × (k < length text.now) }
+fn long(t: &Classes, text: &[u8], k: usize, b: u8) -> Took<Token>
+    requires { k < length text.now }
     ensures { result ≡ long_of text.now k b }
 {
     if b == 37 {
@@ -438,14 +432,13 @@ fn long(t: &[u8; 256], text: &[u8], k: usize, b: u8) -> Step
 }
 
 // Whether a token at a place stands right behind another.
-pub fn adjoins(t: &[u8; 256], text: &[u8], k: usize) -> bool
-    requires { t.now ≡ table }
+pub fn adjoins(t: &Classes, text: &[u8], k: usize) -> bool
     ensures { result ≡ follows text.now k }
 {
     if k == 0 {
         return false;
     }
-    let before = class_at(t, byte_at(text, k - 1));
+    let before = t.class_at(byte_at(text, k - 1));
     if between(1, 2, before) {
         return false;
     }
@@ -462,15 +455,14 @@ fn wide(b: u8) -> u32
 }
 
 // The token at a place where no white space stands.
-fn standing(t: &[u8; 256], text: &[u8], k: usize) -> Step
-    requires { t.now ≡ table }
+fn standing(t: &Classes, text: &[u8], k: usize) -> Took<Token>
     ensures { result ≡ standing_at text.now k }
 {
     if text.len() <= k {
         return took_plain(1, k, 0, 0, 0, k);
     }
     let b = text[k];
-    let c = class_at(t, b);
+    let c = t.class_at(b);
     if c == 2 {
         return took_plain(0, k, 0, 0, 0, k + 1);
     }
@@ -492,8 +484,8 @@ fn standing(t: &[u8; 256], text: &[u8], k: usize) -> Step
 
 impl Reader {
     // The next token, where line ends are tokens, with a lent table.
-    pub fn next_with(self, t: &[u8; 256], text: &[u8]) -> Step
-        requires { t.now ≡ table }
+    #[tactic(auto, unfolding(crate::specs::Tokens::token_at))]
+    pub fn next_with(self, t: &Classes, text: &[u8]) -> Took<Token>
         ensures { result ≡ token_at text.now self.next.at }
     {
         let from = self.next.at;
@@ -502,8 +494,8 @@ impl Reader {
     }
 
     // The next token between brackets, where line ends and comments are white space, with a lent table.
-    pub fn inside_with(self, t: &[u8; 256], text: &[u8]) -> Step
-        requires { t.now ≡ table }
+    #[tactic(auto, unfolding(crate::specs::Tokens::inside_at))]
+    pub fn inside_with(self, t: &Classes, text: &[u8]) -> Took<Token>
         ensures { result ≡ inside_at text.now self.next.at }
     {
         let from = self.next.at;
@@ -511,17 +503,17 @@ impl Reader {
         standing(t, text, k)
     }
 
-    pub fn next(self, text: &[u8]) -> Step
+    pub fn next(self, text: &[u8]) -> Took<Token>
         ensures { result ≡ token_at text.now self.next.at }
     {
-        let t = classes();
+        let t = Classes::new();
         self.next_with(&t, text)
     }
 
-    pub fn next_inside(self, text: &[u8]) -> Step
+    pub fn next_inside(self, text: &[u8]) -> Took<Token>
         ensures { result ≡ inside_at text.now self.next.at }
     {
-        let t = classes();
+        let t = Classes::new();
         self.inside_with(&t, text)
     }
 }

@@ -1,4 +1,6 @@
 -- The head and the end of a printed line: ` = ` and the keyword behind the opening token, and the line feed behind the last one.
+use Rattle.form.specs.Form.{Form}
+use Rattle.std.specs.Prelude.{Ok, Some}
 use Prim.Native.Nat.{ℕ, ◌+◌, ◌≤◌}
 use mathlib.Core.Path.{◌≡◌, refl, sym, ap, ◌∙◌}
 use mathlib.Core.Bool.{true}
@@ -13,8 +15,6 @@ use Rattle.lexis.specs.Tokens.{token_at, took, plain, mark, word, meta}
 use Rattle.lexis.specs.declared.Token.{Token}
 use Rattle.form.specs.Forms.{ended, set_form, meta_form, body_form, open_form, form_at}
 use Rattle.form.specs.declared.Decl.{Decl}
-use Rattle.form.specs.declared.Form.{Form}
-use Rattle.form.specs.declared.Form.TheVariants as form
 use Rattle.writing.specs.Words as words
 use Rattle.tokensback.proofs.Standing.{Stands, Takes, Marks, Declares, ends}
 use Rattle.tokensback.proofs.Tokens.{behind_space, spaced, spaced_mark, mark_back, feed_back, meta_back, word_back, word_letters}
@@ -27,7 +27,7 @@ rest_next text k h = sym (rest_rest text k 1) ∙ ap (drop 1) h
 pub record Formed (text : List ℕ) (t : Token) (says : Decl → Type 0) (s : List ℕ) (f : Form) : Type 0 where
   pub decl : Decl
   pub end : ℕ
-  pub is : f ≡ form.Took (record { place = t.place; index = t.value; decl = decl }) (record { next = at end })
+  pub is : f ≡ Ok (Some (record { place = t.place; index = t.value; decl = decl }, record { next = at end }))
   pub after : Stands text end s
   pub said : says decl
 

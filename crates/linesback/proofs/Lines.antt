@@ -1,4 +1,5 @@
 -- THE LINES OF METADATA AND I/O BACK: each has the form of its declaration, and says the row that was printed.
+use Rattle.form.specs.Form.{Form}
 use Prim.Native.Nat.{ℕ, ◌+◌, ◌≤◌, ◌<◌}
 use mathlib.Core.Path.{◌≡◌, refl, ap, ◌∙◌}
 use mathlib.Core.Bool.{true, false, ◌&&◌}
@@ -19,7 +20,6 @@ use Rattle.brackets.specs.Parts.{str}
 use Rattle.form.specs.Forms.{ended, source_form, scope_form, ident_form, attr_form, meta_form, io_form, body_form, open_form, form_at}
 use Rattle.form.specs.declared.Decl.{Decl}
 use Rattle.form.specs.declared.Decl.TheVariants as decl
-use Rattle.form.specs.declared.Form.{Form}
 use Rattle.netlist.specs.Netlist.{Meta, Io, set_meta, source_meta, scope_meta, indexed_meta, ident_meta, bits_meta, integer_meta, string_meta}
 use Rattle.netlist.specs.Rules.{meta_sound, io_sound, is_byte}
 use Rattle.saying.specs.Rules.{Sofar, pad, said_by, asked_of, first_misnamed}

@@ -1,4 +1,5 @@
 -- References in a printed line: `=!m` behind a word, an option present or left out, and the rows that references name again.
+use Rattle.std.specs.Prelude.{Ok}
 use Prim.Native.Nat.{ℕ, ◌+◌, ◌-◌, ◌≤◌}
 use mathlib.Core.Path.{◌≡◌, refl, sym}
 use mathlib.Core.Bool.{Bool, true, false, not, ◌&&◌}
@@ -18,7 +19,6 @@ use Rattle.brackets.specs.Words.{is_spelled}
 use Rattle.brackets.specs.Parts.{ref, no_ref}
 use Rattle.form.specs.Forms.{link_at, option_at}
 use Rattle.brackets.specs.declared.Ref.{Ref}
-use Rattle.form.specs.declared.Linked.TheVariants as linked
 use Rattle.netlist.specs.Rules.{refers, may_refer}
 use Rattle.saying.specs.Values.{ref_row, row_of}
 use Rattle.saying.specs.Rules.{Sofar, misnamed}
@@ -67,7 +67,7 @@ ref_says {so} {kinds} {f} p r w h t = bool_cases (eqb r 0)
 pub record Links (text : List ℕ) (k r : ℕ) (s : List ℕ) : Type 0 where
   pub link : Ref
   pub end : ℕ
-  pub is : link_at text k ≡ linked.Took link (record { next = at end })
+  pub is : link_at text k ≡ Ok (link, record { next = at end })
   pub given : link.given ≡ true
   pub index : link.index ≡ r - 1
   pub rest : drop end text ≡ s
@@ -84,7 +84,7 @@ link_back {text} {k} r l e h =
 pub record Options (text ls : List ℕ) (k r : ℕ) (s : List ℕ) : Type 0 where
   pub link : Ref
   pub end : ℕ
-  pub is : option_at text ls k ≡ linked.Took link (record { next = at end })
+  pub is : option_at text ls k ≡ Ok (link, record { next = at end })
   pub to : RefTo r link
   pub rest : drop end text ≡ s
 

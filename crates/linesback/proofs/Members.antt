@@ -1,4 +1,6 @@
 -- The members of a printed set, read again: their form, and the rows that they name.
+use Rattle.lexis.specs.Took.{Took}
+use Rattle.std.specs.Prelude.{Ok}
 use Prim.Native.Nat.{ℕ, zero, suc, ◌+◌, ◌-◌, ◌≤◌, ◌<◌}
 use mathlib.Core.Path.{◌≡◌, refl, ap, ap₂}
 use mathlib.Core.Bool.{true}
@@ -14,8 +16,6 @@ use Rattle.signs.specs.Bytes.{class_of, class_from}
 use Rattle.lexis.specs.Tokens.{inside_at, took, plain, mark, meta}
 use Rattle.brackets.specs.Parts.{ref, next_member, set_from, members_from}
 use Rattle.brackets.specs.declared.Ref.{Ref}
-use Rattle.brackets.specs.declared.Measured.{Measured}
-use Rattle.brackets.specs.declared.Measured.TheVariants as measured
 use Rattle.netlist.specs.Rules.{refers, may_refer, is_member}
 use Rattle.saying.specs.Values.{ref_row}
 use Rattle.saying.specs.Rules.{Sofar, first_misnamed}
@@ -30,7 +30,7 @@ use Rattle.linesback.proofs.Links.{RefTo, written_to, row_small, ref_says}
 pub record Members (text : List ℕ) (k : ℕ) (kinds rs s : List ℕ) : Type 0 where
   pub refs : List Ref
   pub end : ℕ
-  pub closed : (fuel n : ℕ) → length rs < fuel → set_from fuel text n k ≡ measured.Closed (n + length rs) (record { next = at end })
+  pub closed : (fuel n : ℕ) → length rs < fuel → set_from fuel text n k ≡ Ok (n + length rs, record { next = at end })
   pub members : (fuel : ℕ) → length rs < fuel → members_from fuel text k ≡ refs
   pub rows : (so : Sofar) → Rowed so kinds → map (ref_row so.meta_numbers) refs ≡ rs
   pub named : (so : Sofar) → Rowed so kinds → first_misnamed so (map (λ (r : Ref). record { ref = r; allowed = is_member }) refs) ≡ none
@@ -38,7 +38,7 @@ pub record Members (text : List ℕ) (k : ℕ) (kinds rs s : List ℕ) : Type 0 
 
 -- `}` ends them
 module _ (text : List ℕ) (k j e : ℕ) (h : inside_at text k ≡ took (plain mark j 125 0 0) e) where
-  set_ends : (n f : ℕ) → 0 < f → set_from f text n k ≡ measured.Closed n (record { next = at e })
+  set_ends : (n f : ℕ) → 0 < f → set_from f text n k ≡ Ok (n, record { next = at e })
   unfolding set_from next_member
   set_ends n zero l = absurd (omega arith)
   set_ends n (suc f) l = rw (h, set_from)
@@ -64,7 +64,7 @@ none_left {text} {k} h =
 
 -- a reference goes before them
 module _ (text : List ℕ) (k j v e l : ℕ) (h : inside_at text k ≡ took (plain meta j v 0 0) e) where
-  set_goes : (n : ℕ) (c : Measured) → ((f : ℕ) → l < f → set_from f text (n + 1) e ≡ c) → (f : ℕ) → suc l < f → set_from f text n k ≡ c
+  set_goes : (n : ℕ) (c : Took ℕ) → ((f : ℕ) → l < f → set_from f text (n + 1) e ≡ c) → (f : ℕ) → suc l < f → set_from f text n k ≡ c
   unfolding set_from next_member
   set_goes n c q zero m = absurd (omega arith)
   set_goes n c q (suc f) m = rw (h, set_from) (q f (omega arith))

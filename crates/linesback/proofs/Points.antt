@@ -1,4 +1,5 @@
 -- Strings and source points of a printed line, each behind a space.
+use Rattle.std.specs.Prelude.{Ok}
 use Prim.Native.Nat.{ℕ, ◌+◌, ◌<◌}
 use mathlib.Core.Path.{◌≡◌, refl}
 use mathlib.Core.Bool.{true}
@@ -10,7 +11,6 @@ use Rattle.signs.specs.Bytes.{class_of, class_from}
 use Rattle.signs.specs.Pieces.{decoded}
 use Rattle.lexis.specs.Tokens.{plain, string, number}
 use Rattle.form.specs.Forms.{point_at}
-use Rattle.form.specs.declared.Pointed.TheVariants as pointed
 use Rattle.netlist.specs.Rules.{is_byte}
 use Rattle.writing.specs.Words as words
 use Rattle.lines.specs.Lines.{point}
@@ -20,7 +20,7 @@ use Rattle.tokensback.proofs.Tokens.{behind_space, spaced, spaced_mark, mark_bac
 -- a point `(#l #c)` at the place k
 pub record Points (text : List ℕ) (k line column : ℕ) (s : List ℕ) : Type 0 where
   pub end : ℕ
-  pub is : point_at text k ≡ pointed.Took (record { line = line; column = column }) (record { next = at end })
+  pub is : point_at text k ≡ Ok (record { line = line; column = column }, record { next = at end })
   pub rest : drop end text ≡ s
 
 module _ (text : List ℕ) (k : ℕ) where

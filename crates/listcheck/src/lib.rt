@@ -6,8 +6,8 @@ ghost use Rattle.std.specs.Prelude.{◌≡◌, ◌&&◌, ◌+◌, ◌*◌, ◌�
 ghost use Rattle.loadlist.specs.Check.{marked, is_whole, first_fits, second_fits, fits, good_record, counted, listed_of};
 
 use listcount::record_count;
+use loadlist::Record;
 use loadlist::records::{byte_at, record_at};
-use loadlist::{Listed, Record};
 
 // The mark and the byte that is always 0.
 fn marked_at(list: &[u8], k: usize) -> bool
@@ -120,22 +120,19 @@ fn counted_with(op: u8, r: Record, n: usize) -> usize
 }
 
 // The check: the first bad record's place, or how many inputs and outputs the list has.
-pub fn check(list: &[u8]) -> Listed
+pub fn check(list: &[u8]) -> Result<(usize, usize), usize>
     ensures { result ≡ listed_of list.now }
 {
     let n = record_count(list);
-    let mut k: usize = 0;
     let mut inputs: usize = 0;
     let mut outputs: usize = 0;
-    while k < n {
-        if good_record(list, k, inputs, outputs) {
-            let r = record_at(list, k);
-            inputs = counted_with(3, r, inputs);
-            outputs = counted_with(8, r, outputs);
-            k += 1;
-        } else {
-            return Listed::Bad(8 * k);
+    for k in 0..n {
+        if !good_record(list, k, inputs, outputs) {
+            return Err(8 * k);
         }
+        let r = record_at(list, k);
+        inputs = counted_with(3, r, inputs);
+        outputs = counted_with(8, r, outputs);
     }
-    Listed::Good { inputs, outputs }
+    Ok((inputs, outputs))
 }

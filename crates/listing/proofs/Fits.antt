@@ -1,4 +1,6 @@
 -- An answer lies within the room it was given in: the canonical text, and the list of 8 bytes a record.
+use Rattle.ground.specs.declared.Refusal.{Refusal}
+use Rattle.std.specs.Prelude.{Result, Ok, Err}
 use mathlib.Core.Path.{◌≡◌, refl, sym, subst}
 use mathlib.Core.Bool.{Bool, true, false, not, ◌||◌}
 use mathlib.Core.List.{List}
@@ -13,22 +15,16 @@ use Rattle.netlist.specs.Netlist.{Netlist}
 use Rattle.netlist.specs.Tables.{tables_in}
 use Rattle.netlist.specs.Good.{short, good, check_of, netlist_in}
 use Rattle.placing.specs.Placing.{ringed}
-use Rattle.netlist.specs.declared.Checked.{Checked}
-use Rattle.netlist.specs.declared.Checked.TheVariants as checked
 use Rattle.lines.specs.Lines.{canonical}
 use Rattle.printing.specs.Outcome as printing
-use Rattle.printing.specs.declared.Printed.{Printed}
-use Rattle.printing.specs.declared.Printed.TheVariants as printed
 use Rattle.printing.proofs.Printing.{not_printed, is_printed}
 use Rattle.translating.specs.Outcome as translating
 use Rattle.translating.specs.Translation.{record_sum}
-use Rattle.translating.specs.declared.Translated.{Translated}
-use Rattle.translating.specs.declared.Translated.TheVariants as translated
 
 -- what a printing answers, in bytes
-abbrev length_of : Printed → ℕ
-length_of (printed.Length n) = n
-length_of (printed.Refused g) = 0
+abbrev length_of : Result ℕ Refusal → ℕ
+length_of (Ok n) = n
+length_of (Err g) = 0
 
 written_fits : (text room : List ℕ) → length_of (printing.written text room).answer ≤ length room
 unfolding printing.written
@@ -37,19 +33,19 @@ written_fits text room = bool_cases (ltb (length room) (length text))
     (λ e. let h = ltb-false (length room) (length text) e in rw e h)
 
 module _ (rows strings bits room : List ℕ) where
-  printed_at : (c : Checked) → check_of rows strings bits ≡ c → length_of (printing.print_of rows strings bits room).answer ≤ length room
-  printed_at checked.Good e = subst (λ (o : printing.Outcome). length_of o.answer ≤ length room)
+  printed_at : (c : Result (Unit {0}) Refusal) → check_of rows strings bits ≡ c → length_of (printing.print_of rows strings bits room).answer ≤ length room
+  printed_at (Ok tt) e = subst (λ (o : printing.Outcome). length_of o.answer ≤ length room)
       (is_printed rows strings bits room (printing.written (canonical (netlist_in rows strings bits)) room) e refl) (written_fits (canonical (netlist_in rows strings bits)) room)
-  printed_at (checked.Refused g) e = subst (λ (o : printing.Outcome). length_of o.answer ≤ length room) (not_printed rows strings bits room g e) (omega arith)
+  printed_at (Err g) e = subst (λ (o : printing.Outcome). length_of o.answer ≤ length room) (not_printed rows strings bits room g e) (omega arith)
 
-  pub text_fits : (r : Printed) (n : ℕ) (room' : List ℕ) → r ≡ printed.Length n → printing.made r room' ≡ printing.print_of rows strings bits room → n ≤ length room
-  text_fits r n room' is e = subst (λ (p : Printed). length_of p ≤ length room) is
+  pub text_fits : (r : Result ℕ Refusal) (n : ℕ) (room' : List ℕ) → r ≡ Ok n → printing.made r room' ≡ printing.print_of rows strings bits room → n ≤ length room
+  text_fits r n room' is e = subst (λ (p : Result ℕ Refusal). length_of p ≤ length room) is
       (subst (λ (o : printing.Outcome). length_of o.answer ≤ length room) (sym e) (printed_at (check_of rows strings bits) refl))
 
 -- what a translation answers, in records
-abbrev records_of : Translated → ℕ
-records_of (translated.Records n) = n
-records_of (translated.Refused g) = 0
+abbrev records_of : Result ℕ Refusal → ℕ
+records_of (Ok n) = n
+records_of (Err g) = 0
 
 record Fits (n : ℕ) (o : translating.Outcome) : Type 0 where
   of : 8 * records_of o.answer ≤ n
@@ -73,7 +69,7 @@ module _ (rows strings bits room work : List ℕ) where
       (either (ltb 8192 (record_sum N)) (record { of = none })
       (room_fits (8 * record_sum N) (record { of = none }) (λ h. record { of = h })))))
 
-  pub list_fits : (r : Translated) (n : ℕ) (room' work' : List ℕ) → r ≡ translated.Records n → translating.made r room' work' ≡ translating.translate_of rows strings bits room work → 8 * n ≤ length room
+  pub list_fits : (r : Result ℕ Refusal) (n : ℕ) (room' work' : List ℕ) → r ≡ Ok n → translating.made r room' work' ≡ translating.translate_of rows strings bits room work → 8 * n ≤ length room
   list_fits r n room' work' is e =
       let f : Fits (length room) (translating.made r room' work') = subst (Fits (length room)) (sym e) translated_fits in
-      subst (λ (t : Translated). 8 * records_of t ≤ length room) is f.of
+      subst (λ (t : Result ℕ Refusal). 8 * records_of t ≤ length room) is f.of

@@ -8,13 +8,12 @@ ghost use Rattle.std.specs.Prelude.{◌≡◌, length};
 use filling::read_full;
 use ground::Refusal;
 use hexlines::tell_list;
-use printing::{Printed, print_text};
+use printing::print_text;
 use reader::read_text;
-use reading::Read;
 use std::io;
 use std::io::Write;
 use tellrefused::tell_refused;
-use translating::{Translated, translate};
+use translating::translate;
 
 fn tell<W: Write>(to: &mut W, g: Refusal) -> io::Result<()> {
     tell_refused(to, g)?;
@@ -36,8 +35,8 @@ fn translate_into<W: Write>(
     work: &mut [u32],
 ) -> io::Result<()> {
     match translate(rows, strings, trits, list, work) {
-        Translated::Refused(g) => tell(to, g),
-        Translated::Records(n) => tell_both(to, text, &list[0..8 * n]),
+        Err(g) => tell(to, g),
+        Ok(n) => tell_both(to, text, &list[0..8 * n]),
     }
 }
 
@@ -62,8 +61,8 @@ fn print_into<W: Write>(
     room: &mut [u8],
 ) -> io::Result<()> {
     match print_text(rows, strings, trits, room) {
-        Printed::Refused(g) => tell(to, g),
-        Printed::Length(n) => translate_tables(to, rows, strings, trits, &room[0..n]),
+        Err(g) => tell(to, g),
+        Ok(n) => translate_tables(to, rows, strings, trits, &room[0..n]),
     }
 }
 
@@ -91,8 +90,8 @@ fn list_text<W: Write>(to: &mut W, text: &[u8]) -> io::Result<()> {
     let mut trits = [0u8; 393728];
     let mut work = [0u32; 132608];
     match read_text(text, &mut rows, &mut strings, &mut trits, &mut work) {
-        Read::Refused(g) => tell(to, g),
-        Read::Accepted => print_tables(to, &rows, &strings, &trits),
+        Err(g) => tell(to, g),
+        Ok(()) => print_tables(to, &rows, &strings, &trits),
     }
 }
 

@@ -1,4 +1,6 @@
 -- What is known of a list that the check finds good.
+use Rattle.std.specs.Prelude.{Result, Ok, Err}
+use Rattle.ground.proofs.Pairs.{ok_first, ok_second}
 use mathlib.Core.Path.{◌≡◌, refl, ap}
 use mathlib.Core.List.{List}
 use mathlib.Core.Option.{Option, none, some}
@@ -7,8 +9,6 @@ use native.Mathlib.Omega.{arith}
 use lib.ListN.{length, drop}
 use Rattle.ground.proofs.Bools.{bool_cases}
 use Rattle.ground.proofs.Outcome.{any_two}
-use Rattle.loadlist.specs.declared.Listed.{Listed}
-use Rattle.loadlist.specs.declared.Listed.TheVariants.{Good, Bad}
 use Rattle.loadlist.specs.Records.{record_in, records_in, input_op, output_op}
 use Rattle.loadlist.specs.Check.{good_record, bad_record_from, bad_record, counted, record_count, records_with, records, listed_from, listed_of}
 use Rattle.loadlist.proofs.Walk.{good_early}
@@ -39,22 +39,22 @@ pub record GoodList (s : List ℕ) (inputs outputs : ℕ) : Type 0 where
   pub outs : outputs ≡ records_with output_op (records s)
 
 -- what the check's answer tells
-pub good_list : (s : List ℕ) (inputs outputs : ℕ) → Good inputs outputs ≡ listed_of s → GoodList s inputs outputs
+pub good_list : (s : List ℕ) (inputs outputs : ℕ) → Ok (inputs, outputs) ≡ listed_of s → GoodList s inputs outputs
 unfolding listed_of
 good_list s inputs outputs e = go (bad_record s) refl e
   where
-    go : (b : Option ℕ) → bad_record s ≡ b → Good inputs outputs ≡ listed_from s b → GoodList s inputs outputs
-    go none p q = record { all = p; ins = cc; outs = cc }
+    go : (b : Option ℕ) → bad_record s ≡ b → Ok (inputs, outputs) ≡ listed_from s b → GoodList s inputs outputs
+    go none p q = record { all = p; ins = ok_first q; outs = ok_second q }
     go (some k) p q = let z : ◌≡◌ {A = ℕ} 0 1 = cc in absurd (omega arith)
 
-pub bad_list : (s : List ℕ) (k : ℕ) → Bad k ≡ listed_of s → bad_record s ≡ some k
+pub bad_list : (s : List ℕ) (k : ℕ) → Err k ≡ listed_of s → bad_record s ≡ some k
 unfolding listed_of
 bad_list s k e = go (bad_record s) refl e
   where
-    go : (b : Option ℕ) → bad_record s ≡ b → Bad k ≡ listed_from s b → bad_record s ≡ some k
+    go : (b : Option ℕ) → bad_record s ≡ b → Err k ≡ listed_from s b → bad_record s ≡ some k
     go none p q = let z : ◌≡◌ {A = ℕ} 0 1 = cc in absurd (omega arith)
     go (some j) p q = cc
 
 -- the check's contract allows one answer
-pub one_answer : (s : List ℕ) (a b : Listed) → a ≡ listed_of s → b ≡ listed_of s → a ≡ b
+pub one_answer : (s : List ℕ) (a b : Result (ℕ × ℕ) ℕ) → a ≡ listed_of s → b ≡ listed_of s → a ≡ b
 one_answer s a b = any_two listed_of s a b

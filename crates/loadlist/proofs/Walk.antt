@@ -1,4 +1,5 @@
 -- The walk over the records of a list: what is left of it gives what the whole gives.
+use Rattle.std.specs.Prelude.{Ok, Err}
 use mathlib.Core.Path.{◌≡◌, ap, ap₂, sym, ◌∙◌}
 use mathlib.Core.Bool.{true, false}
 use mathlib.Core.List.{List, ◌∷◌}
@@ -12,7 +13,6 @@ use borrow.Author.Tests.{ltb-true}
 use Rattle.ground.specs.Lists.{total}
 use Rattle.ground.proofs.Bools.{and_true}
 use Rattle.loadlist.specs.declared.Record.{Record}
-use Rattle.loadlist.specs.declared.Listed.TheVariants.{Good, Bad}
 use Rattle.loadlist.specs.Records.{record_in, records_in, input_op, output_op}
 use Rattle.loadlist.specs.Check.{good_record, bad_record_from, bad_record, counted, record_count, records_with, records, listed_of}
 
@@ -69,15 +69,15 @@ passed_more {s} {n} {k} {i} {o} {r} i' o' p more e good is os =
     }
 
 -- the ways out of the check
-pub listed_bad : {s : List ℕ} {n k i o : ℕ} → Passed s n k i o → k < n → good_record (drop (8 * k) s) k i o ≡ false → Bad (8 * k) ≡ listed_of s
+pub listed_bad : {s : List ℕ} {n k i o : ℕ} → Passed s n k i o → k < n → good_record (drop (8 * k) s) k i o ≡ false → Err (8 * k) ≡ listed_of s
 unfolding listed_of
 listed_bad {s} {n} {k} {i} {o} p more e = rw (sym p.bad ∙ bad_here s n k more i o e)
 
-pub listed_good : {s : List ℕ} {n k i o : ℕ} → Passed s n k i o → n ≡ k → Good i o ≡ listed_of s
+pub listed_good : {s : List ℕ} {n k i o : ℕ} → Passed s n k i o → n ≡ k → Ok (i, o) ≡ listed_of s
 unfolding listed_of records_in bad_record_from total
 listed_good {s} {n} {k} {i} {o} p e =
     let z : n - k ≡ 0 = omega arith in
     let b : none ≡ bad_record s = rw z at p.bad in
     let a : i ≡ records_with input_op (records s) = sym (add-zero i) ∙ (rw z at p.ins) in
     let q : o ≡ records_with output_op (records s) = sym (add-zero o) ∙ (rw z at p.outs) in
-    rw (← b) (ap₂ Good a q)
+    rw (← b) (ap₂ (λ (i o : ℕ). Ok (i, o)) a q)

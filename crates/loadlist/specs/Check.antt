@@ -1,13 +1,11 @@
 -- The check of a load list. 22: "load list malformed", at the first bad record. Document 01, Load list: "A part of a record is a bad
 -- one; a record's place is its first byte."
-use Rattle.std.specs.Prelude.{ℕ, zero, suc, ◌+◌, ◌*◌, ◌/◌, Bool, true, false, ◌&&◌, List, leb, ltb, eqb, length, get_or, take, drop}
+use Rattle.std.specs.Prelude.{ℕ, zero, suc, ◌+◌, ◌*◌, ◌/◌, Bool, true, false, ◌&&◌, List, leb, ltb, eqb, length, get_or, take, drop, Result, Ok, Err}
 use Rattle.std.proofs.Math.Option.{Option, none, some}
 use Rattle.ground.specs.Choice.{pick}
 use Rattle.ground.specs.Lists.{total}
 use Rattle.loadlist.specs.Records.{record_in, records_in, input_op, not_op, output_op}
 use Rattle.loadlist.specs.declared.Record.{Record}
-use Rattle.loadlist.specs.declared.Listed.{Listed}
-use Rattle.loadlist.specs.declared.Listed.TheVariants.{Good, Bad}
 
 -- "mark 47 53, operation, 0"
 abbrev pub marked : List ℕ → Bool
@@ -58,9 +56,9 @@ abbrev pub records_with : ℕ → List Record → ℕ
 records_with op rs = total (λ r. pick (eqb r.op op) 1 0) rs
 
 -- THE CHECK: the first bad record, or the numbers of input and output records
-abbrev pub listed_from : List ℕ → Option ℕ → Listed
-listed_from s (some k) = Bad k
-listed_from s none = Good (records_with input_op (records s)) (records_with output_op (records s))
+abbrev pub listed_from : List ℕ → Option ℕ → Result (ℕ × ℕ) ℕ
+listed_from s (some k) = Err k
+listed_from s none = Ok (records_with input_op (records s), records_with output_op (records s))
 
-unfoldable pub listed_of : List ℕ → Listed
+unfoldable pub listed_of : List ℕ → Result (ℕ × ℕ) ℕ
 listed_of s = listed_from s (bad_record s)

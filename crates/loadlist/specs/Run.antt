@@ -1,5 +1,6 @@
 -- The run of a load list: each record makes its slot, outputs in order. Refusals 1, 22, 23, 24.
-use Rattle.std.specs.Prelude.{ℕ, Bool, true, false, not, ◌&&◌, List, [], ◌∷◌, ◌++◌, ltb, eqb, length, get_or}
+use Rattle.ground.specs.declared.Refusal.{Refusal}
+use Rattle.std.specs.Prelude.{ℕ, Bool, true, false, not, ◌&&◌, List, [], ◌∷◌, ◌++◌, ltb, eqb, length, get_or, Result, Ok, Err}
 use Rattle.std.proofs.Math.Option.{Option, none, some}
 use Rattle.ground.specs.Choice.{pick}
 use Rattle.ground.specs.Lists.{every}
@@ -9,8 +10,6 @@ use Rattle.trit.specs.Trit.{not_of, and_of, or_of, xor_of}
 use Rattle.loadlist.specs.Records.{input_op, not_op, and_op, or_op, xor_op, output_op}
 use Rattle.loadlist.specs.Check.{records, records_with, bad_record}
 use Rattle.loadlist.specs.declared.Record.{Record}
-use Rattle.loadlist.specs.declared.Ran.{Ran}
-use Rattle.loadlist.specs.declared.Ran.TheVariants as ran
 
 -- what a record makes of the input bits and of the slots made before it; an output's slot is a copy
 abbrev pub slot_of : Record → List ℕ → List ℕ → ℕ
@@ -45,11 +44,11 @@ abbrev pub assigns : ℕ → List ℕ → Bool
 assigns n ins = eqb (length ins) n && every (λ x. ltb x 3) ins
 
 pub record Outcome : Type 0 where
-  pub answer : Ran
+  pub answer : Result ℕ Refusal
   pub outs : List ℕ
   pub work : List ℕ
 
-abbrev pub made : Ran → List ℕ → List ℕ → Outcome
+abbrev pub made : Result ℕ Refusal → List ℕ → List ℕ → Outcome
 made answer outs work = record { answer = answer; outs = outs; work = work }
 
 -- the work space: a byte a slot
@@ -59,18 +58,18 @@ work_length = 8192
 -- "Work space is zero after every call but one refused 1 (unchanged) and a run that succeeds, when it holds the slots, a byte each,
 -- then zeros"
 abbrev pub refused : ℕ → ℕ → List ℕ → List ℕ → Outcome
-refused n k outs work = made (ran.Refused (refusal n (at k))) outs (over work_length (zeros work_length) work)
+refused n k outs work = made (Err (refusal n (at k))) outs (over work_length (zeros work_length) work)
 
 abbrev pub ran_from : Option ℕ → List ℕ → List ℕ → List ℕ → List ℕ → Outcome
 ran_from (some k) list ins outs work = refused 22 k outs work
 ran_from none list ins outs work =
     pick (not (assigns (records_with input_op (records list)) ins)) (refused 23 0 outs work)
     (pick (ltb (length outs) (length (outputs list ins))) (refused 24 0 outs work)
-    (made (ran.Outputs (length (outputs list ins))) (over (length (outputs list ins)) (outputs list ins) outs)
+    (made (Ok (length (outputs list ins))) (over (length (outputs list ins)) (outputs list ins) outs)
     (over work_length (pad work_length (slots list ins)) work)))
 
 -- THE OUTCOME OF A RUN
 unfoldable pub run_of : List ℕ → List ℕ → List ℕ → List ℕ → Outcome
 run_of list ins outs work =
-    pick (ltb (length work) work_length) (made (ran.Refused (refusal 1 (at 0))) outs work)
+    pick (ltb (length work) work_length) (made (Err (refusal 1 (at 0))) outs work)
     (ran_from (bad_record list) list ins outs work)

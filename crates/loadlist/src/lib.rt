@@ -13,17 +13,3 @@ pub struct Record {
     pub first: u16,
     pub second: u16,
 }
-
-// A list that is good, with the number of its input and output records; or the place of its first bad record.
-#[derive(Clone, Copy)]
-pub enum Listed {
-    Good { inputs: usize, outputs: usize },
-    Bad(usize),
-}
-
-// The number of output bits given, or a refusal.
-#[derive(Clone, Copy)]
-pub enum Ran {
-    Outputs(usize),
-    Refused(Refusal),
-}

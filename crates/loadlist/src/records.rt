@@ -9,17 +9,14 @@ use crate::Record;
 pub fn byte_at(list: &[u8], at: usize) -> u8
     ensures { result ≡ get_or list.now at 0 }
 {
-    if at < list.len() {
-        return list[at];
-    }
-    0
+    list.get(at).copied().unwrap_or(0)
 }
 
 // 16 bits, the low byte first.
 fn field(low: u8, high: u8) -> u16
     ensures { result ≡ low + 256 * high }
 {
-    (low as u16) + 256 * (high as u16)
+    u16::from_le_bytes([low, high])
 }
 
 // A record whose eight bytes are all there.

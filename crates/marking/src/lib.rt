@@ -33,10 +33,8 @@ fn mark_rest(start: u32, name: &[u8], from: usize) -> u32
     ensures { result ≡ mark_from start (drop from name.now) }
 {
     let mut mark = start;
-    let mut i = from;
-    while i < name.len() {
+    for i in from..name.len() {
         mark = mark_more(mark, name[i]);
-        i += 1;
     }
     mark
 }
@@ -47,6 +45,7 @@ fn mark_of(kind: u32, name: &[u8]) -> u32
 {
     let mut mark = mark_kind(kind);
     let mut i = 0;
+    // A step takes four bytes, so this is no walk by ones.
     while 4 <= name.len() - i {
         mark = mark_four(mark, name[i], name[i + 1], name[i + 2], name[i + 3]);
         i += 4;

@@ -174,11 +174,9 @@ pub fn put_metas(
     ensures { Wrote room.old n (meta_lines 0 (metas_in (pools strings.now members.now trits.now) count rows.now)) room.new result }
 {
     let mut n = n;
-    let mut i: u32 = 0;
-    while i < count {
+    for i in 0..count {
         let k = wide(i) * 16;
         n = put_meta(room, n, i, &rows[k..k + 16], strings, members, trits);
-        i += 1;
     }
     n
 }

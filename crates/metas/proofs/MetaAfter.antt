@@ -1,8 +1,9 @@
 -- A declaration of metadata: how rules 9 to 13 come out, and what stands in the tables when it is noted.
+use Rattle.std.specs.Prelude.{Ok, Err, Option, Some, None}
 use mathlib.Core.Path.{◌≡◌, refl, sym, ap, subst, ◌∙◌}
 use mathlib.Core.Bool.{Bool, true, false, not}
 use mathlib.Core.List.{List, [], ◌∷◌, ◌++◌, map}
-use mathlib.Core.Option.{Option, none, some}
+use mathlib.Core.Option.{Option as Found, none, some}
 use Prim.Native.Nat.{ℕ, zero, suc, ◌+◌, ◌*◌, ◌<◌, ◌≤◌}
 use native.Mathlib.Omega.{arith}
 use lib.Dec.{leb}
@@ -30,11 +31,8 @@ use Rattle.netlist.specs.Rules.{is_member, is_source, complete, attr_width, room
 use Rattle.saying.specs.Values.{ref_row, row_of, trits_in}
 use Rattle.saying.specs.Rules.{Sofar, metadata, said_by, added, declares, asked_of, misnamed, first_misnamed, ruled, ruled_on, ruled_out}
 use Rattle.asking.specs.References as references
-use Rattle.asking.specs.declared.Misnaming.{Misnaming}
-use Rattle.asking.specs.declared.Misnaming.TheVariants as misnaming
 use Rattle.noting.specs.Rulings.{ruling_of}
 use Rattle.metas.specs.MetaRows.{is_metadata, meta_said, meta_limits, members_said, payload_trits, trits_said, misnaming_for, place_of}
-use Rattle.noting.specs.declared.Ruling.TheVariants as ruling
 use Rattle.noting.proofs.Passing.{never_passed, passes, not_false}
 
 -- WHAT IS SAID
@@ -91,16 +89,16 @@ firsts so (r ∷ rs) = bool_cases (references.misnamed is_member (map (λ (m : M
     (λ b. rw (b, first_misnamed) (rw (b, references.first_misnamed) (firsts so rs)))
 
 -- RULES 9 TO 13
-abbrev pub judged : Option Place → Option Refusal → Option Refusal
+abbrev pub judged : Found Place → Found Refusal → Found Refusal
 judged none x = x
 judged (some p) x = some (refusal 10 p)
 
-abbrev pub meta_rules : List ℕ → Sofar → Declared → Option Refusal
+abbrev pub meta_rules : List ℕ → Sofar → Declared → Found Refusal
 meta_rules text so d =
     pick (declares so.meta_numbers d.index) (some (refusal 9 d.place))
     (judged (first_misnamed so (asked_of text d.decl)) (meta_limits so.netlist (meta_said text so.meta_numbers d.decl) d.place))
 
-judged_is : (so : Sofar) (d : Declared) (m : Meta) (x : Option Place) → ruled so d (metadata m) x ≡ judged x (meta_limits so.netlist m d.place)
+judged_is : (so : Sofar) (d : Declared) (m : Meta) (x : Found Place) → ruled so d (metadata m) x ≡ judged x (meta_limits so.netlist m d.place)
 unfolding added
 judged_is so d m none = refl
 judged_is so d m (some p) = refl
@@ -111,16 +109,16 @@ meta_rules_lem text so d e =
     ap (ruled_on text so d) (meta_said_lem text so d.decl e)
     ∙ ap (pick (declares so.meta_numbers d.index) (some (refusal 9 d.place))) (judged_is so d (meta_said text so.meta_numbers d.decl) (first_misnamed so (asked_of text d.decl)))
 
-judged_passes : (x : Option Place) (y : Option Refusal) → ruling_of (judged x y) ≡ ruling.Passed → ruling_of y ≡ ruling.Passed
+judged_passes : (x : Found Place) (y : Found Refusal) → ruling_of (judged x y) ≡ Ok tt → ruling_of y ≡ Ok tt
 judged_passes none y e = e
 judged_passes (some p) y e = never_passed (refusal 10 p) e
 
 -- what passes all rules passes each
 pub record MetaPassed (text : List ℕ) (so : Sofar) (d : Declared) : Type 0 where
   pub new : declares so.meta_numbers d.index ≡ false
-  pub limits : ruling_of (meta_limits so.netlist (meta_said text so.meta_numbers d.decl) d.place) ≡ ruling.Passed
+  pub limits : ruling_of (meta_limits so.netlist (meta_said text so.meta_numbers d.decl) d.place) ≡ Ok tt
 
-pub meta_passed : (text : List ℕ) (so : Sofar) (d : Declared) → ruling_of (meta_rules text so d) ≡ ruling.Passed → MetaPassed text so d
+pub meta_passed : (text : List ℕ) (so : Sofar) (d : Declared) → ruling_of (meta_rules text so d) ≡ Ok tt → MetaPassed text so d
 meta_passed text so d e =
     let y = meta_limits so.netlist (meta_said text so.meta_numbers d.decl) d.place in
     let x = first_misnamed so (asked_of text d.decl) in
@@ -146,17 +144,17 @@ misnaming_said text so (decl.Cell w) e = never_both e refl
 
 -- HOW THE RULES COME OUT
 module _ (text : List ℕ) (so : Sofar) (d : Declared) (e : is_metadata d.decl ≡ true) where
-  pub meta_twice : 1 ≤ row_of so.meta_numbers d.index → ruling.Refused (refusal 9 d.place) ≡ ruling_of (ruled_out text so d)
+  pub meta_twice : 1 ≤ row_of so.meta_numbers d.index → Err (refusal 9 d.place) ≡ ruling_of (ruled_out text so d)
   meta_twice h = sym (ap ruling_of (meta_rules_lem text so d e) ∙ rw (le-leb 1 (row_of so.meta_numbers d.index) h))
 
-  module _ (h : row_of so.meta_numbers d.index < 1) (x : Misnaming) (f : x ≡ misnaming_for text (map (λ (m : Meta). m.kind) so.netlist.metas) so.meta_numbers d.decl) where
+  module _ (h : row_of so.meta_numbers d.index < 1) (x : Option Place) (f : x ≡ misnaming_for text (map (λ (m : Meta). m.kind) so.netlist.metas) so.meta_numbers d.decl) where
     found : first_misnamed so (asked_of text d.decl) ≡ place_of x
     found = misnaming_said text so d.decl e ∙ ap place_of (sym f)
 
-    pub meta_misnamed : (p : Place) → x ≡ misnaming.At p → ruling.Refused (refusal 10 p) ≡ ruling_of (ruled_out text so d)
+    pub meta_misnamed : (p : Place) → x ≡ Some p → Err (refusal 10 p) ≡ ruling_of (ruled_out text so d)
     meta_misnamed p g = sym (ap ruling_of (meta_rules_lem text so d e) ∙ rw (lt-leb 1 (row_of so.meta_numbers d.index) h, found ∙ ap place_of g))
 
-    pub meta_named : x ≡ misnaming.Nowhere → ruling_of (meta_limits so.netlist (meta_said text so.meta_numbers d.decl) d.place) ≡ ruling_of (ruled_out text so d)
+    pub meta_named : x ≡ None → ruling_of (meta_limits so.netlist (meta_said text so.meta_numbers d.decl) d.place) ≡ ruling_of (ruled_out text so d)
     meta_named g = sym (ap ruling_of (meta_rules_lem text so d e) ∙ rw (lt-leb 1 (row_of so.meta_numbers d.index) h, found ∙ ap place_of g))
 
 -- WHAT PASSES is within each limit

@@ -1,4 +1,5 @@
 -- What a row of metadata says, how the rules come out for it, and how the members of a set are written.
+use Rattle.std.specs.Prelude.{Ok, Err, Some, None}
 use mathlib.Core.Path.{◌≡◌, refl, sym, ap, ap₂, subst, ◌∙◌}
 use mathlib.Core.Bool.{Bool, true, false, not}
 use mathlib.Core.List.{List, [], ◌∷◌, ◌++◌, map}
@@ -26,7 +27,6 @@ use Rattle.brackets.proofs.Steps.{tour_starts, tour_goes}
 use Rattle.brackets.specs.declared.Str.{Str}
 use Rattle.brackets.specs.declared.Ref.{Ref}
 use Rattle.brackets.specs.declared.Tour.{Tour}
-use Rattle.brackets.specs.declared.Toured.TheVariants as toured
 use Rattle.brackets.specs.declared.Members.{Members}
 use Rattle.form.specs.declared.Label.{Label}
 use Rattle.form.specs.declared.Label.TheVariants as label
@@ -44,7 +44,6 @@ use Rattle.noting.specs.Noted.{Tallied}
 use Rattle.noting.specs.Rulings.{ruling_of, meta_more}
 use Rattle.metas.specs.MetaRows.{is_metadata, meta_said, spot_of, row_for, meta_words, RowSays, row_complete, trits_fit, meta_limits, members_said, rows_of, wrote, rows_with}
 use Rattle.noting.specs.declared.Tally.{Tally}
-use Rattle.noting.specs.declared.Ruling.TheVariants as ruling
 use Rattle.metas.specs.declared.MetaRow.{MetaRow}
 use Rattle.noting.proofs.Flat.{length_put}
 use Rattle.noting.proofs.Limits.{meta_fits, meta_full}
@@ -68,16 +67,16 @@ module _ (text : List ℕ) (r : MetaRow) (m : Meta) (s : RowSays text r m) where
       (λ e. let h : n.strings + r.name.size + r.text.size ≤ 16384 = ltb-false _ _ e in rw (e, meta_fits N m n t a (omega arith) (omega arith) (omega arith) (omega arith)))
 
 module _ (N : Netlist) (m : Meta) (place : Place) where
-  pub meta_incomplete : complete m ≡ false → ruling.Refused (refusal 11 place) ≡ ruling_of (meta_limits N m place)
+  pub meta_incomplete : complete m ≡ false → Err (refusal 11 place) ≡ ruling_of (meta_limits N m place)
   meta_incomplete e = rw e
 
-  pub meta_misfit : complete m ≡ true → attr_width m ≡ false → ruling.Refused (refusal 12 place) ≡ ruling_of (meta_limits N m place)
+  pub meta_misfit : complete m ≡ true → attr_width m ≡ false → Err (refusal 12 place) ≡ ruling_of (meta_limits N m place)
   meta_misfit e f = rw (e, f)
 
-  pub meta_cramps : complete m ≡ true → attr_width m ≡ true → not (roomy (meta_more N m)) ≡ true → ruling.Refused (refusal 13 place) ≡ ruling_of (meta_limits N m place)
+  pub meta_cramps : complete m ≡ true → attr_width m ≡ true → not (roomy (meta_more N m)) ≡ true → Err (refusal 13 place) ≡ ruling_of (meta_limits N m place)
   meta_cramps e f g = rw (e, f, g)
 
-  pub meta_passes : complete m ≡ true → attr_width m ≡ true → not (roomy (meta_more N m)) ≡ false → ruling.Passed ≡ ruling_of (meta_limits N m place)
+  pub meta_passes : complete m ≡ true → attr_width m ≡ true → not (roomy (meta_more N m)) ≡ false → Ok tt ≡ ruling_of (meta_limits N m place)
   meta_passes e f g = rw (e, f, g)
 
 -- FOUR TIMES FOUR WORDS
@@ -96,7 +95,7 @@ pub tour_whole : (text : List ℕ) (k : ℕ) (w : Tour) → w ≡ tour_at text k
 tour_whole text k w e = ap (members_left text) e ∙ tour_starts text k
 
 module _ (text : List ℕ) (w : Tour) where
-  module _ (m : Ref) (next : Tour) (e : tour_step text w ≡ toured.Member m next) where
+  module _ (m : Ref) (next : Tour) (e : tour_step text w ≡ Some (m, next)) where
     member_next : members_left text w ≡ m ∷ members_left text next
     member_next = tour_goes text w ∙ ap (members_on text) e
 
@@ -111,12 +110,8 @@ module _ (text : List ℕ) (w : Tour) where
     pub member_more : (ns pool : List ℕ) (to row : ℕ) → row ≡ ref_row ns m → sets (set pool to row) (to + 1) (rows_of ns (members_left text next)) ≡ sets pool to (rows_of ns (members_left text w))
     member_more ns pool to row f = rw (member_next, f, add-one)
 
-  pub members_done : tour_step text w ≡ toured.Done → (ns pool : List ℕ) (to : ℕ) → pool ≡ sets pool to (rows_of ns (members_left text w))
+  pub members_done : tour_step text w ≡ None → (ns pool : List ℕ) (to : ℕ) → pool ≡ sets pool to (rows_of ns (members_left text w))
   members_done e ns pool to = rw (tour_goes text w ∙ ap (members_on text) e)
-
-  pub members_none : w.left ≤ 0 → (ns pool : List ℕ) (to : ℕ) → pool ≡ sets pool to (rows_of ns (members_left text w))
-  unfolding members_from
-  members_none h ns pool to = let z : w.left ≡ 0 = omega arith in rw z
 
 -- THE ROW OF A DECLARATION notes what the declaration says
 spot_spells : (text : List ℕ) (s : Str) → StrIn text s → Spells text (spot_of s).at (string_in text s)

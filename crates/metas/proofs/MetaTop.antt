@@ -1,4 +1,5 @@
 -- A declaration of metadata that passes is noted.
+use Rattle.std.specs.Prelude.{Ok}
 use mathlib.Core.Path.{◌≡◌, refl, sym, ap, subst, ◌∙◌}
 use mathlib.Core.Bool.{Bool, true, false, not, ◌&&◌}
 use mathlib.Core.List.{List, [], ◌∷◌, ◌++◌}
@@ -25,8 +26,6 @@ use Rattle.noting.specs.Formed.{Formed}
 use Rattle.noting.specs.Rulings.{ruling_of, meta_more}
 use Rattle.metas.specs.MetaRows.{is_metadata, meta_said, row_for, RowSays, meta_limits, members_said, trits_said, meta_tally, MetaRoom, MetaAdds, MetaAdded, wrote, rows_with}
 use Rattle.noting.specs.declared.Tally.{Tally}
-use Rattle.noting.specs.declared.Noting.TheVariants as noting
-use Rattle.noting.specs.declared.Ruling.TheVariants as ruling
 use Rattle.metas.specs.declared.MetaRow.{MetaRow}
 use Rattle.noting.proofs.Growing.{length_last, last_of_every}
 use Rattle.noting.proofs.Limits.{meta_strings_lem, meta_members}
@@ -36,7 +35,7 @@ use Rattle.metas.proofs.MetaNotes.{meta_noted}
 use Rattle.metas.proofs.MetaAfter.{meta_said_lem, members_same, trits_same, members_long, meta_rules, meta_rules_lem, MetaPassed, meta_passed, bits_narrow}
 
 module _ (text : List ℕ) (so : Sofar) (n : Tally) (rows bits work : List ℕ) (d : Declared) (row : MetaRow) (noted : Noted text so n rows bits work) (formed : Formed text d)
-    (kind : is_metadata d.decl ≡ true) (says : row ≡ row_for so.meta_numbers d.decl) (passed : ruling_of (ruled_out text so d) ≡ ruling.Passed) where
+    (kind : is_metadata d.decl ≡ true) (says : row ≡ row_for so.meta_numbers d.decl) (passed : ruling_of (ruled_out text so d) ≡ Ok tt) where
   abbrev m : Meta
   m = meta_said text so.meta_numbers d.decl
 
@@ -95,7 +94,7 @@ module _ (text : List ℕ) (so : Sofar) (n : Tally) (rows bits work : List ℕ) 
         trits = let c : length m.bits ≡ length (trits_said text d.decl) = ap length (trits_same text so.meta_numbers d.decl) in omega (arith, few_trits);
       }
 
-  pub meta_after : (rows' bits' work' : List ℕ) → MetaAdded text d row n rows bits work rows' bits' work' → After text so d (noting.More (meta_tally n row)) rows' bits' work'
+  pub meta_after : (rows' bits' work' : List ℕ) → MetaAdded text d row n rows bits work rows' bits' work' → After text so d (Ok (meta_tally n row)) rows' bits' work'
   unfolding added
   meta_after rows' bits' work' a =
       let q = meta_room in

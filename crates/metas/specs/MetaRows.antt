@@ -1,6 +1,6 @@
 -- What a declaration of metadata says, and the row that notes it, all told by value.
-use Rattle.std.specs.Prelude.{◌≡◌, ℕ, ◌+◌, ◌*◌, ◌<◌, ◌≤◌, Bool, true, false, not, ◌||◌, List, [], ◌∷◌, ◌++◌, map, eqb, leb, length, take, drop, set}
-use Rattle.std.proofs.Math.Option.{Option, none, some}
+use Rattle.std.specs.Prelude.{◌≡◌, ℕ, ◌+◌, ◌*◌, ◌<◌, ◌≤◌, Bool, true, false, not, ◌||◌, List, [], ◌∷◌, ◌++◌, map, eqb, leb, length, take, drop, set, Option, Some, None}
+use Rattle.std.proofs.Math.Option.{Option as Found, none, some}
 use Rattle.std.proofs.lemmas.List.Edits.{sets}
 use Rattle.ground.specs.Choice.{pick}
 use Rattle.ground.specs.Lists.{all_of}
@@ -25,8 +25,6 @@ use Rattle.netlist.specs.Rules.{has_name, bad_range, complete, attr_width, roomy
 use Rattle.saying.specs.Values.{ref_row, string_in, trits_in, meta, source_of, scope_of, attr_of}
 use Rattle.saying.specs.Notes.{MetaNote, meta_note, Spells, Maps}
 use Rattle.asking.specs.References.{misnamed, first_misnamed}
-use Rattle.asking.specs.declared.Misnaming.{Misnaming}
-use Rattle.asking.specs.declared.Misnaming.TheVariants as misnaming
 use Rattle.noting.specs.Rulings.{meta_more}
 use Rattle.noting.specs.declared.Tally.{Tally}
 use Rattle.metas.specs.declared.Spot.{Spot}
@@ -122,7 +120,7 @@ abbrev pub trits_fit : ℕ → ℕ → Bool
 trits_fit kind trits = not (eqb kind bits_meta) || wide trits
 
 -- RULES 11 TO 13
-abbrev pub meta_limits : Netlist → Meta → Place → Option Refusal
+abbrev pub meta_limits : Netlist → Meta → Place → Found Refusal
 meta_limits N m place =
     pick (not (complete m)) (some (refusal 11 place))
     (pick (not (attr_width m)) (some (refusal 12 place))
@@ -154,20 +152,20 @@ trits_said text (decl.Io n w) = []
 trits_said text (decl.Cell w) = []
 
 -- RULE 10: the first reference that names nothing it may, the kinds of the noted rows and the author's numbers given
-abbrev pub misnaming_for : List ℕ → List ℕ → List ℕ → Decl → Misnaming
+abbrev pub misnaming_for : List ℕ → List ℕ → List ℕ → Decl → Option Place
 misnaming_for text kinds numbers (decl.Set m) = first_misnamed (misnamed is_member kinds numbers) (members_at text m.at)
-misnaming_for text kinds numbers (decl.Source f r) = misnaming.Nowhere
+misnaming_for text kinds numbers (decl.Source f r) = None
 misnaming_for text kinds numbers (decl.Scope l i s) =
-    pick (misnamed is_scope kinds numbers i) (misnaming.At i.place)
-    (pick (misnamed is_source kinds numbers s) (misnaming.At s.place) misnaming.Nowhere)
-misnaming_for text kinds numbers (decl.Ident n i) = pick (misnamed is_scope kinds numbers i) (misnaming.At i.place) misnaming.Nowhere
-misnaming_for text kinds numbers (decl.Attr n p) = misnaming.Nowhere
-misnaming_for text kinds numbers (decl.Io n w) = misnaming.Nowhere
-misnaming_for text kinds numbers (decl.Cell w) = misnaming.Nowhere
+    pick (misnamed is_scope kinds numbers i) (Some i.place)
+    (pick (misnamed is_source kinds numbers s) (Some s.place) None)
+misnaming_for text kinds numbers (decl.Ident n i) = pick (misnamed is_scope kinds numbers i) (Some i.place) None
+misnaming_for text kinds numbers (decl.Attr n p) = None
+misnaming_for text kinds numbers (decl.Io n w) = None
+misnaming_for text kinds numbers (decl.Cell w) = None
 
-abbrev pub place_of : Misnaming → Option Place
-place_of (misnaming.At p) = some p
-place_of misnaming.Nowhere = none
+abbrev pub place_of : Option Place → Found Place
+place_of (Some p) = some p
+place_of None = none
 
 -- n words of a slice from a on, written over
 abbrev pub wrote : ℕ → ℕ → List ℕ → List ℕ → List ℕ

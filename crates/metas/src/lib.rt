@@ -3,9 +3,8 @@
 // reading above.
 #![tactic(auto)]
 
-ghost use Rattle.std.specs.Prelude.{◌≡◌, true, not, List, [], ◌∷◌, ℕ, ◌+◌, ◌*◌, ◌<◌, ◌≤◌, length, set};
+ghost use Rattle.std.specs.Prelude.{◌≡◌, true, not, List, [], ◌∷◌, ℕ, ◌+◌, ◌*◌, ◌<◌, ◌≤◌, length, set, Some, None};
 ghost use Rattle.std.proofs.lemmas.List.Edits.{sets};
-ghost use Rattle.signs.specs.Bytes.{table};
 ghost use Rattle.brackets.specs.Parts.{members_at};
 ghost use Rattle.netlist.specs.Netlist.{Meta, Netlist, is_scope};
 ghost use Rattle.netlist.specs.Rules.{roomy, is_source};
@@ -16,21 +15,21 @@ ghost use Rattle.noting.specs.Formed.{Formed, StrIn, LabelIn, PayloadIn, DeclIn}
 ghost use Rattle.noting.specs.Rulings.{ruling_of, meta_more};
 ghost use Rattle.metas.specs.MetaRows.{spot_of, no_spot, no_range, meta_row, scope_row, attr_row, row_for, meta_words, RowSays, named_rightly, enough_members, row_complete, trits_fit, meta_limits, meta_tally, MetaRoom, rows_of, members_said, payload_trits, trits_said, misnaming_for, is_metadata, wrote, rows_with, MetaAdded, MetaAdds};
 ghost use Rattle.asking.specs.References.{allowed, kinds_said, misnamed};
-ghost use Rattle.asking.specs.declared.Misnaming.TheVariants.{At, Nowhere};
 ghost use Rattle.ground.specs.Choice.{pick};
 ghost use Rattle.ground.specs.Lists.{joined};
 ghost use Rattle.ground.specs.Regions.{pad};
 
+use asking::Asks;
 use asking::refs::{first_misnamed_member, misnames, ref_row, row_of};
-use asking::{Asks, Misnaming};
-use brackets::{Members, Ref, Str, Toured};
+use brackets::{Members, Ref, Str};
 use constants::copy_trits;
 use form::{Decl, Declared, Label, Payload, Point, Range};
-use ground::Place;
+use ground::{Place, Refusal};
 use kinds::wide;
-use noting::{Noting, Ruling, Tally, refuse};
+use noting::{Tally, refuse};
 use ranges::bad_range;
 use regions::{meta_numbers_of, metas_of};
+use signs::classes::Classes;
 use tours::{tour_of, tour_step};
 
 // A string as a row notes it: the place in the text where it begins, 0 for an empty one, and the bytes that it means.
@@ -280,7 +279,7 @@ fn meta_cramped(row: MetaRow, n: Tally) -> bool
 }
 
 // Rules 11 to 13.
-fn meta_limits(place: Place, row: MetaRow, n: Tally) -> Ruling
+fn meta_limits(place: Place, row: MetaRow, n: Tally) -> Result<(), Refusal>
     requires { (n.strings ≤ 16384) × (n.members ≤ 1024) }
     ensures { (text : List ℕ) (N : Netlist) (m : Meta) → Tallied N n → RowSays text row m → result ≡ ruling_of (meta_limits N m place) }
 {
@@ -291,7 +290,7 @@ fn meta_limits(place: Place, row: MetaRow, n: Tally) -> Ruling
             if meta_cramped(row, n) {
                 return refuse(13, place);
             }
-            return Ruling::Passed;
+            return Ok(());
         }
         return refuse(12, place);
     }
@@ -353,29 +352,22 @@ fn meta_more(row: MetaRow, n: Tally) -> Tally
 }
 
 // The members of a set, as rows, behind those noted.
-fn put_set(t: &[u8; 256], text: &[u8], members: Members, map: &[u32], pool: &mut [u32], at: usize)
-    requires { (t.now ≡ table) × (length text.now ≤ 65536) × (at + length (members_at text.now members.at) ≤ length pool.old) }
+fn put_set(t: &Classes, text: &[u8], members: Members, map: &[u32], pool: &mut [u32], at: usize)
+    requires { (length text.now ≤ 65536) × (at + length (members_at text.now members.at) ≤ length pool.old) }
     ensures { (ns : List ℕ) → Maps ns map.now → pool.new ≡ sets pool.old at (rows_of ns (members_at text.now members.at)) }
 {
     let mut tour = tour_of(text, members);
     let mut to = at;
-    while 0 < tour.left {
-        match tour_step(t, text, tour) {
-            Toured::Member(m, next) => {
-                pool[to] = ref_row(map, m);
-                to += 1;
-                tour = next;
-            }
-            Toured::Done => {
-                return;
-            }
-        }
+    while let Some((m, next)) = tour_step(t, text, tour) {
+        pool[to] = ref_row(map, m);
+        to += 1;
+        tour = next;
     }
 }
 
 // The members that a declaration brings, behind those noted.
-fn put_members(t: &[u8; 256], text: &[u8], decl: Decl, map: &[u32], pool: &mut [u32], at: usize)
-    requires { (t.now ≡ table) × (length text.now ≤ 65536) × ((ns : List ℕ) → at + length (members_said text.now ns decl) ≤ length pool.old) }
+fn put_members(t: &Classes, text: &[u8], decl: Decl, map: &[u32], pool: &mut [u32], at: usize)
+    requires { (length text.now ≤ 65536) × ((ns : List ℕ) → at + length (members_said text.now ns decl) ≤ length pool.old) }
     ensures { (ns : List ℕ) → Maps ns map.now → pool.new ≡ sets pool.old at (members_said text.now ns decl) }
 {
     match decl {
@@ -389,8 +381,8 @@ fn put_members(t: &[u8; 256], text: &[u8], decl: Decl, map: &[u32], pool: &mut [
     }
 }
 
-fn put_payload(t: &[u8; 256], text: &[u8], payload: Payload, trits: &mut [u8], at: usize)
-    requires { (t.now ≡ table) × PayloadIn text.now payload × (at + length (payload_trits text.now payload) ≤ length trits.old) }
+fn put_payload(t: &Classes, text: &[u8], payload: Payload, trits: &mut [u8], at: usize)
+    requires { PayloadIn text.now payload × (at + length (payload_trits text.now payload) ≤ length trits.old) }
     ensures { trits.new ≡ sets trits.old at (payload_trits text.now payload) }
 {
     match payload {
@@ -401,8 +393,8 @@ fn put_payload(t: &[u8; 256], text: &[u8], payload: Payload, trits: &mut [u8], a
 }
 
 // The trits that a declaration brings, behind those noted.
-fn put_trits(t: &[u8; 256], text: &[u8], decl: Decl, trits: &mut [u8], at: usize)
-    requires { (t.now ≡ table) × DeclIn text.now decl × (at + length (trits_said text.now decl) ≤ length trits.old) }
+fn put_trits(t: &Classes, text: &[u8], decl: Decl, trits: &mut [u8], at: usize)
+    requires { DeclIn text.now decl × (at + length (trits_said text.now decl) ≤ length trits.old) }
     ensures { trits.new ≡ sets trits.old at (trits_said text.now decl) }
 {
     match decl {
@@ -416,47 +408,47 @@ fn put_trits(t: &[u8; 256], text: &[u8], decl: Decl, trits: &mut [u8], at: usize
     }
 }
 
-fn misnaming_of(map: &[u32], metas: &[u32], n: usize, r: Ref, asks: Asks) -> Misnaming
-    ensures { (ns : List MetaNote) (numbers : List ℕ) → metas.now ≡ pad 8192 (joined meta_note ns) → n ≡ length ns → Maps numbers map.now → r.index < 65536 → result ≡ pick (misnamed (allowed asks) (kinds_said ns) numbers r) (At r.place) Nowhere }
+fn misnaming_of(map: &[u32], metas: &[u32], n: usize, r: Ref, asks: Asks) -> Option<Place>
+    ensures { (ns : List MetaNote) (numbers : List ℕ) → metas.now ≡ pad 8192 (joined meta_note ns) → n ≡ length ns → Maps numbers map.now → r.index < 65536 → result ≡ pick (misnamed (allowed asks) (kinds_said ns) numbers r) (Some r.place) None }
 {
     let place = r.place;
     if misnames(map, metas, n, r, asks) {
-        return Misnaming::At(place);
+        return Some(place);
     }
-    Misnaming::Nowhere
+    None
 }
 
 // A scope names its own scope first, then its source.
-fn scope_misnaming(map: &[u32], metas: &[u32], n: usize, inside: Ref, source: Ref) -> Misnaming
-    ensures { (ns : List MetaNote) (numbers : List ℕ) → metas.now ≡ pad 8192 (joined meta_note ns) → n ≡ length ns → Maps numbers map.now → inside.index < 65536 → source.index < 65536 → result ≡ pick (misnamed is_scope (kinds_said ns) numbers inside) (At inside.place) (pick (misnamed is_source (kinds_said ns) numbers source) (At source.place) Nowhere) }
+fn scope_misnaming(map: &[u32], metas: &[u32], n: usize, inside: Ref, source: Ref) -> Option<Place>
+    ensures { (ns : List MetaNote) (numbers : List ℕ) → metas.now ≡ pad 8192 (joined meta_note ns) → n ≡ length ns → Maps numbers map.now → inside.index < 65536 → source.index < 65536 → result ≡ pick (misnamed is_scope (kinds_said ns) numbers inside) (Some inside.place) (pick (misnamed is_source (kinds_said ns) numbers source) (Some source.place) None) }
 {
     let place = inside.place;
     if misnames(map, metas, n, inside, Asks::Scope) {
-        return Misnaming::At(place);
+        return Some(place);
     }
     misnaming_of(map, metas, n, source, Asks::Source)
 }
 
 // Rule 10 for metadata.
 fn misnaming_for(
-    t: &[u8; 256],
+    t: &Classes,
     text: &[u8],
     decl: Decl,
     map: &[u32],
     metas: &[u32],
     n: usize,
-) -> Misnaming
-    requires { (t.now ≡ table) × (length text.now ≤ 65536) × DeclIn text.now decl }
+) -> Option<Place>
+    requires { (length text.now ≤ 65536) × DeclIn text.now decl }
     ensures { (ns : List MetaNote) (numbers : List ℕ) → metas.now ≡ pad 8192 (joined meta_note ns) → n ≡ length ns → Maps numbers map.now → result ≡ misnaming_for text.now (kinds_said ns) numbers decl }
 {
     match decl {
         Decl::Set(m) => first_misnamed_member(t, text, m, map, metas, n),
-        Decl::Source(_, _) => Misnaming::Nowhere,
+        Decl::Source(_, _) => None,
         Decl::Scope(_, i, s) => scope_misnaming(map, metas, n, i, s),
         Decl::Ident(_, i) => misnaming_of(map, metas, n, i, Asks::Scope),
-        Decl::Attr(_, _) => Misnaming::Nowhere,
-        Decl::Io(_, _) => Misnaming::Nowhere,
-        Decl::Cell(_) => Misnaming::Nowhere,
+        Decl::Attr(_, _) => None,
+        Decl::Io(_, _) => None,
+        Decl::Cell(_) => None,
     }
 }
 
@@ -477,7 +469,7 @@ fn row_in(text: &[u8], work: &[u32], decl: Decl) -> MetaRow
 
 // The members and the row, in their regions of the rows.
 fn put_rows(
-    t: &[u8; 256],
+    t: &Classes,
     text: &[u8],
     decl: Decl,
     row: MetaRow,
@@ -485,7 +477,7 @@ fn put_rows(
     rows: &mut [u32],
     n: Tally,
 )
-    requires { (t.now ≡ table) × (length text.now ≤ 65536) × (length rows.old ≡ 26307) × MetaRoom row n × ((ns : List ℕ) → n.members + length (members_said text.now ns decl) ≤ 1024) }
+    requires { (length text.now ≤ 65536) × (length rows.old ≡ 26307) × MetaRoom row n × ((ns : List ℕ) → n.members + length (members_said text.now ns decl) ≤ 1024) }
     ensures { (ns : List ℕ) → Maps ns map.now → rows.new ≡ rows_with rows.old n (members_said text.now ns decl) row }
 {
     put_members(t, text, decl, map, &mut rows[8195..9219], n.members);
@@ -494,7 +486,7 @@ fn put_rows(
 
 // .. with the map of the work space.
 fn add_rows(
-    t: &[u8; 256],
+    t: &Classes,
     text: &[u8],
     decl: Decl,
     row: MetaRow,
@@ -502,15 +494,15 @@ fn add_rows(
     rows: &mut [u32],
     n: Tally,
 )
-    requires { (t.now ≡ table) × (length text.now ≤ 65536) × (length rows.old ≡ 26307) × (length work.now ≡ 132608) × MetaRoom row n × ((ns : List ℕ) → n.members + length (members_said text.now ns decl) ≤ 1024) }
+    requires { (length text.now ≤ 65536) × (length rows.old ≡ 26307) × (length work.now ≡ 132608) × MetaRoom row n × ((ns : List ℕ) → n.members + length (members_said text.now ns decl) ≤ 1024) }
     ensures { (ns : List ℕ) → Maps ns (meta_map_in work.now) → rows.new ≡ rows_with rows.old n (members_said text.now ns decl) row }
 {
     put_rows(t, text, decl, row, meta_numbers_of(work), rows, n);
 }
 
 // The trits in their region of the bits.
-fn add_trits(t: &[u8; 256], text: &[u8], decl: Decl, bits: &mut [u8], at: usize)
-    requires { (t.now ≡ table) × (length bits.old ≡ 393728) × DeclIn text.now decl × (at + length (trits_said text.now decl) ≤ 131072) }
+fn add_trits(t: &Classes, text: &[u8], decl: Decl, bits: &mut [u8], at: usize)
+    requires { (length bits.old ≡ 393728) × DeclIn text.now decl × (at + length (trits_said text.now decl) ≤ 131072) }
     ensures { bits.new ≡ wrote 0 131072 bits.old (sets (attr_trits_in bits.old) at (trits_said text.now decl)) }
 {
     put_trits(t, text, decl, &mut bits[0..131072], at);
@@ -526,15 +518,15 @@ fn add_number(work: &mut [u32], index: u32, n: usize)
 
 // Rules 9 to 13 for metadata.
 fn meta_ruled(
-    t: &[u8; 256],
+    t: &Classes,
     text: &[u8],
     d: Declared,
     row: MetaRow,
     map: &[u32],
     metas: &[u32],
     n: Tally,
-) -> Ruling
-    requires { (t.now ≡ table) × (length text.now ≤ 65536) × Formed text.now d × (is_metadata d.decl ≡ true) × (n.strings ≤ 16384) × (n.members ≤ 1024) }
+) -> Result<(), Refusal>
+    requires { (length text.now ≤ 65536) × Formed text.now d × (is_metadata d.decl ≡ true) × (n.strings ≤ 16384) × (n.members ≤ 1024) }
     ensures { (so : Sofar) (pool trits : List ℕ) → MetasHeld text.now so.netlist.metas so.meta_numbers metas.now pool trits map.now → Tallied so.netlist n → row ≡ row_for so.meta_numbers d.decl → result ≡ ruling_of (ruled_out text.now so d) }
 {
     let place = d.place;
@@ -544,22 +536,22 @@ fn meta_ruled(
         return refuse(9, place);
     }
     match misnaming_for(t, text, decl, map, metas, n.metas) {
-        Misnaming::At(p) => refuse(10, p),
-        Misnaming::Nowhere => meta_limits(place, row, n),
+        Some(p) => refuse(10, p),
+        None => meta_limits(place, row, n),
     }
 }
 
 // .. of the noted rows and the map.
 fn ruled_in(
-    t: &[u8; 256],
+    t: &Classes,
     text: &[u8],
     d: Declared,
     row: MetaRow,
     rows: &[u32],
     work: &[u32],
     n: Tally,
-) -> Ruling
-    requires { (t.now ≡ table) × (length text.now ≤ 65536) × (length rows.now ≡ 26307) × (length work.now ≡ 132608) × Formed text.now d × (is_metadata d.decl ≡ true) × (n.strings ≤ 16384) × (n.members ≤ 1024) }
+) -> Result<(), Refusal>
+    requires { (length text.now ≤ 65536) × (length rows.now ≡ 26307) × (length work.now ≡ 132608) × Formed text.now d × (is_metadata d.decl ≡ true) × (n.strings ≤ 16384) × (n.members ≤ 1024) }
     ensures { (so : Sofar) (pool trits : List ℕ) → MetasHeld text.now so.netlist.metas so.meta_numbers (metas_in rows.now) pool trits (meta_map_in work.now) → Tallied so.netlist n → row ≡ row_for so.meta_numbers d.decl → result ≡ ruling_of (ruled_out text.now so d) }
 {
     meta_ruled(t, text, d, row, meta_numbers_of(work), metas_of(rows), n)
@@ -567,7 +559,7 @@ fn ruled_in(
 
 // A row more in the tables, and its number in the map.
 fn add_meta(
-    t: &[u8; 256],
+    t: &Classes,
     text: &[u8],
     d: Declared,
     row: MetaRow,
@@ -576,7 +568,7 @@ fn add_meta(
     work: &mut [u32],
     n: Tally,
 )
-    requires { (t.now ≡ table) × (length text.now ≤ 65536) × Formed text.now d × MetaAdds text.now d row n rows.old bits.old work.old }
+    requires { (length text.now ≤ 65536) × Formed text.now d × MetaAdds text.now d row n rows.old bits.old work.old }
     ensures { MetaAdded text.now d row n rows.old bits.old work.old rows.new bits.new work.new }
 {
     let index = d.index;
@@ -588,24 +580,20 @@ fn add_meta(
 
 // A declaration of metadata: refused by rules 9 to 13, or noted.
 pub fn note_meta(
-    t: &[u8; 256],
+    t: &Classes,
     text: &[u8],
     d: Declared,
     rows: &mut [u32],
     bits: &mut [u8],
     work: &mut [u32],
     n: Tally,
-) -> Noting
-    requires { (t.now ≡ table) × (length text.now ≤ 65536) × NotedSome text.now n rows.old bits.old work.old × Formed text.now d × (is_metadata d.decl ≡ true) }
+) -> Result<Tally, Refusal>
+    requires { (length text.now ≤ 65536) × NotedSome text.now n rows.old bits.old work.old × Formed text.now d × (is_metadata d.decl ≡ true) }
     ensures { (so : Sofar) → Noted text.now so n rows.old bits.old work.old → After text.now so d result rows.new bits.new work.new }
 {
     let decl = d.decl;
     let row = row_in(text, work, decl);
-    match ruled_in(t, text, d, row, rows, work, n) {
-        Ruling::Refused(g) => Noting::Refused(g),
-        Ruling::Passed => {
-            add_meta(t, text, d, row, rows, bits, work, n);
-            Noting::More(meta_more(row, n))
-        }
-    }
+    ruled_in(t, text, d, row, rows, work, n)?;
+    add_meta(t, text, d, row, rows, bits, work, n);
+    Ok(meta_more(row, n))
 }

@@ -15,20 +15,17 @@ pub fn name_mark(text: &[u8], kind: u32, from: usize, size: usize) -> u32
     ensures { result ≡ mark_of kind (decoded text.now from) }
 {
     let mut mark = mark_kind(kind);
-    let mut left = size;
     let mut i = from;
-    while 0 < left {
+    for _done in 0..size {
         let b = text[i];
         if b != 92 {
             mark = mark_more(mark, b);
             i += 1;
-            left -= 1;
             continue;
         }
         let x = next_byte(text, i);
         mark = mark_more(mark, x.byte);
         i = x.end;
-        left -= 1;
     }
     mark
 }

@@ -1,4 +1,5 @@
 -- Worked cases, computed: names over three levels with a negative index, rows that are no ident, and rooms too short, exact and longer.
+use Rattle.std.specs.Prelude.{Ok, Err}
 use Prim.Native.Nat.{ℕ}
 use mathlib.Core.Path.{◌≡◌, refl}
 use mathlib.Core.List.{List, [], ◌∷◌, map}
@@ -12,7 +13,6 @@ use Rattle.netlist.specs.Tables.{meta_rows, io_rows, cell_rows, run_rows, layout
 use Rattle.writing.specs.Decimal.{digits, places, signed}
 use Rattle.naming.specs.Names.{made, name_from, full_name, written}
 use Rattle.naming.specs.Rows.{name_at}
-use Rattle.naming.specs.declared.Named.TheVariants as named
 
 meta : ℕ → List ℕ → ℕ → ℕ → Meta
 meta kind name inside number =
@@ -40,10 +40,10 @@ rows_right = refl
 
 -- room of 9, 10 and 12 bytes for 10; a scope, also where there is no room; a row behind the last
 outcomes_right :
-    (written netlist 2 (replicate 9 65) ≡ made (named.Refused (refusal 24 (at 0))) (replicate 9 65))
-    × (written netlist 2 (replicate 10 65) ≡ made (named.Length 10) (bytes "top/-3/clk"))
-    × (written netlist 2 (replicate 12 65) ≡ made (named.Length 10) (bytes "top/-3/clkAA"))
-    × (written netlist 3 [] ≡ made (named.Refused (refusal 16 (at 0))) [])
-    × (written netlist 7 (replicate 12 65) ≡ made (named.Refused (refusal 16 (at 0))) (replicate 12 65))
+    (written netlist 2 (replicate 9 65) ≡ made (Err (refusal 24 (at 0))) (replicate 9 65))
+    × (written netlist 2 (replicate 10 65) ≡ made (Ok 10) (bytes "top/-3/clk"))
+    × (written netlist 2 (replicate 12 65) ≡ made (Ok 10) (bytes "top/-3/clkAA"))
+    × (written netlist 3 [] ≡ made (Err (refusal 16 (at 0))) [])
+    × (written netlist 7 (replicate 12 65) ≡ made (Err (refusal 16 (at 0))) (replicate 12 65))
 unfolding meta netlist total bytes over digits places signed name_from written
 outcomes_right = (refl, refl, refl, refl, refl)

@@ -1,4 +1,5 @@
 -- Names by rows: the steps of the writer, and the fuel that the definition has beside them.
+use Rattle.std.specs.Prelude.{Ok, Err}
 use Prim.Native.Nat.{ℕ, zero, suc, ◌+◌, ◌-◌, ◌<◌, ◌≤◌, min}
 use mathlib.Core.Path.{◌≡◌, refl, sym, ap, ◌∙◌}
 use mathlib.Core.Bool.{Bool, true, false}
@@ -18,7 +19,6 @@ use Rattle.writing.proofs.Parts.{up_start, up_cons, up_none}
 use Rattle.writing.proofs.Stands.{then, step, start, same_text, same_rest, ended, counted, standing}
 use Rattle.naming.specs.Names.{Outcome, made, given}
 use Rattle.naming.specs.Rows.{field_at, parent_at, own_at, name_at, ident_at, Rising, asked}
-use Rattle.naming.specs.declared.Named.TheVariants as named
 
 -- a string of the pool, byte by byte
 pub string_start : (l : List ℕ) (n i size e : ℕ) (s : List ℕ) → e ≡ min (i + size) (length s) → Leaves l n (λ k. part i size s ++ k) l n (λ k. up_to i e s ++ k)
@@ -115,12 +115,12 @@ module _ (metas strings : List ℕ) (row up : ℕ) (g : Rising (row + 1) metas) 
 pub counts : {l l' : List ℕ} {r : ℕ} (name : List ℕ) → Wrote l 0 (λ k. name ++ k) l' r → r ≤ most → r ≡ min (length name) most
 counts name p h = counted p h ∙ ap (λ (x : List ℕ). min (length x) most) (append-nil name)
 
-pub room_short : (name room : List ℕ) (n : ℕ) → n ≡ min (length name) most → length room < n → made (named.Refused (refusal 24 (at 0))) room ≡ given name room
+pub room_short : (name room : List ℕ) (n : ℕ) → n ≡ min (length name) most → length room < n → made (Err (refusal 24 (at 0))) room ≡ given name room
 room_short name room n e h = rw (lt-ltb (length room) (length name) (omega (arith, e)))
 
 -- as no slice has the largest count of bytes, the count is the length
 pub room_enough : (name : List ℕ) {l l' : List ℕ} {n r : ℕ} → length l < most → n ≡ min (length name) most → n ≤ length l → r ≤ most
-    → Wrote l 0 (λ k. name ++ k) l' r → made (named.Length r) l' ≡ given name l
+    → Wrote l 0 (λ k. name ++ k) l' r → made (Ok r) l' ≡ given name l
 room_enough name {l} {l'} {n} {r} f e h b p =
     let k : length name ≤ length l = omega (arith, e) in
     let c = counts name p b in
@@ -128,7 +128,7 @@ room_enough name {l} {l'} {n} {r} f e h b p =
     let m : name ++ [] ≡ name = append-nil name in
     let q : length (name ++ []) ≤ length l = rw m k in
     let z : l' ≡ over (length name) name l = standing p q ∙ ap (λ (x : List ℕ). over (length x) x l) m in
-    rw (le-ltb (length l) (length name) k) (λ i. made (named.Length (g i)) (z i))
+    rw (le-ltb (length l) (length name) k) (λ i. made (Ok (g i)) (z i))
 
 -- 16, or the name of an ident
 module _ (count : ℕ) (metas strings : List ℕ) (row : ℕ) {b : Bool} (e : b ≡ ident_at count metas row) where
@@ -141,6 +141,6 @@ module _ (count : ℕ) (metas strings : List ℕ) (row : ℕ) {b : Bool} (e : b 
   unfolding asked
   is_ident_named room o h p = let q : ident_at count metas row ≡ true = sym e ∙ h in rw q p
 
-  pub no_ident_named : (room : List ℕ) → b ≡ false → made (named.Refused (refusal 16 (at 0))) room ≡ asked count metas strings row room
+  pub no_ident_named : (room : List ℕ) → b ≡ false → made (Err (refusal 16 (at 0))) room ≡ asked count metas strings row room
   unfolding asked
   no_ident_named room h = let q : ident_at count metas row ≡ false = sym e ∙ h in rw q

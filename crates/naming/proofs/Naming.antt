@@ -1,4 +1,5 @@
 -- The names of good tables, by their rows as by the netlist that they show; and the outcome of naming.
+use Rattle.std.specs.Prelude.{Ok, Err}
 use Prim.Native.Nat.{ℕ, zero, suc, ◌+◌, ◌-◌, ◌*◌, ◌<◌, ◌≤◌}
 use mathlib.Core.Path.{◌≡◌, refl, sym, ap, ◌∙◌}
 use mathlib.Core.Bool.{Bool, true, false, ◌&&◌}
@@ -19,13 +20,11 @@ use Rattle.netlist.specs.Rules.{refers, may_refer, meta_sound, metas_sound, vali
 use Rattle.netlist.specs.Tables.{Tables, tables_in}
 use Rattle.netlist.specs.View.{meta_in, metas_in, view}
 use Rattle.netlist.specs.Good.{laid, good, check_of}
-use Rattle.netlist.specs.declared.Checked.TheVariants as checked
 use Rattle.netlist.proofs.Laying.{valid_roomy, valid_metas}
 use Rattle.checking.proofs.Top.{checked_good}
 use Rattle.writing.specs.Decimal.{signed}
 use Rattle.naming.specs.Names.{Outcome, made, given, no_meta, meta_at, own_name, name_from, is_ident, written, name_of}
 use Rattle.naming.specs.Rows.{field_at, parent_at, own_at, name_at, ident_at, Rising, asked}
-use Rattle.naming.specs.declared.Named.TheVariants as named
 use Rattle.naming.proofs.Laws.{stop, go_up, none}
 
 -- PARENTS ARE EARLIER ROWS in sound metadata
@@ -156,19 +155,19 @@ module _ (T : Tables) where
 -- ANY LENT TABLES: 1 and 15 as the check says, else what is asked of the rows
 module _ (rows strings bits : List ℕ) where
   module _ (metas : List ℕ) (m : metas ≡ part 3 8192 rows) where
-    pub cut_rising : check_of rows strings bits ≡ checked.Good → Rising (get_or rows 0 0) metas
+    pub cut_rising : check_of rows strings bits ≡ Ok tt → Rising (get_or rows 0 0) metas
     unfolding tables_in
     cut_rising h =
         let k = checked_good rows strings bits h in
         rw m (good_rising (tables_in rows strings bits) (part_length 3 8192 rows (omega (arith, k.0.rows_long))) k.1)
 
-    pub is_named : (row : ℕ) (room : List ℕ) (o : Outcome) (text : List ℕ) → text ≡ part 0 16384 strings → check_of rows strings bits ≡ checked.Good → o ≡ asked (get_or rows 0 0) metas text row room → o ≡ name_of rows strings bits row room
+    pub is_named : (row : ℕ) (room : List ℕ) (o : Outcome) (text : List ℕ) → text ≡ part 0 16384 strings → check_of rows strings bits ≡ Ok tt → o ≡ asked (get_or rows 0 0) metas text row room → o ≡ name_of rows strings bits row room
     unfolding name_of tables_in part
     is_named row room o text t h e =
         let r : Rising (get_or rows 0 0) (part 3 8192 rows) = rw m at (cut_rising h) in
         rw h ((rw (m, t) at e) ∙ asked_is (tables_in rows strings bits) r row room)
 
-  pub not_named : (row : ℕ) (room : List ℕ) (g : Refusal) → check_of rows strings bits ≡ checked.Refused g → made (named.Refused g) room ≡ name_of rows strings bits row room
+  pub not_named : (row : ℕ) (room : List ℕ) (g : Refusal) → check_of rows strings bits ≡ Err g → made (Err g) room ≡ name_of rows strings bits row room
   unfolding name_of
   not_named row room g h = rw h
 

@@ -1,16 +1,13 @@
 -- Full names. Document 01, Metadata: "The full name of an ident is written parent first, down to the named declaration, joined by `/`,
 -- indexed scopes in decimal." 16: "asked row is no ident".
-use Rattle.std.specs.Prelude.{ℕ, zero, suc, ◌-◌, Bool, true, false, not, ◌&&◌, List, [], ◌∷◌, ◌++◌, ltb, eqb, length, get_or}
+use Rattle.ground.specs.declared.Refusal.{Refusal}
+use Rattle.std.specs.Prelude.{ℕ, zero, suc, ◌-◌, Bool, true, false, not, ◌&&◌, List, [], ◌∷◌, ◌++◌, ltb, eqb, length, get_or, Result, Ok, Err}
 use Rattle.ground.specs.Choice.{pick}
 use Rattle.ground.specs.Refusals.{at, refusal}
 use Rattle.ground.specs.Regions.{over}
 use Rattle.netlist.specs.Netlist.{Meta, Netlist, indexed_meta, ident_meta}
 use Rattle.netlist.specs.Good.{check_of, netlist_in}
-use Rattle.netlist.specs.declared.Checked.{Checked}
-use Rattle.netlist.specs.declared.Checked.TheVariants as checked
 use Rattle.writing.specs.Decimal.{signed}
-use Rattle.naming.specs.declared.Named.{Named}
-use Rattle.naming.specs.declared.Named.TheVariants as named
 
 abbrev pub no_meta : Meta
 no_meta =
@@ -38,25 +35,25 @@ abbrev pub is_ident : Netlist → ℕ → Bool
 is_ident N row = ltb row (length N.metas) && eqb (meta_at N row).kind ident_meta
 
 pub record Outcome : Type 0 where
-  pub answer : Named
+  pub answer : Result ℕ Refusal
   pub room : List ℕ
 
-abbrev pub made : Named → List ℕ → Outcome
+abbrev pub made : Result ℕ Refusal → List ℕ → Outcome
 made answer room = record { answer = answer; room = room }
 
 -- 24; "Room past an answer is unchanged"
 abbrev pub given : List ℕ → List ℕ → Outcome
 given name room =
-    pick (ltb (length room) (length name)) (made (named.Refused (refusal 24 (at 0))) room)
-    (made (named.Length (length name)) (over (length name) name room))
+    pick (ltb (length room) (length name)) (made (Err (refusal 24 (at 0))) room)
+    (made (Ok (length name)) (over (length name) name room))
 
 -- 16, then 24
 unfoldable pub written : Netlist → ℕ → List ℕ → Outcome
-written N row room = pick (not (is_ident N row)) (made (named.Refused (refusal 16 (at 0))) room) (given (full_name N row) room)
+written N row room = pick (not (is_ident N row)) (made (Err (refusal 16 (at 0))) room) (given (full_name N row) room)
 
-abbrev after : Checked → List ℕ → Outcome → Outcome
-after checked.Good room o = o
-after (checked.Refused g) room o = made (named.Refused g) room
+abbrev after : Result (Unit {0}) Refusal → List ℕ → Outcome → Outcome
+after (Ok tt) room o = o
+after (Err g) room o = made (Err g) room
 
 -- THE OUTCOME OF NAMING: 1, 15, 16, 24
 unfoldable pub name_of : List ℕ → List ℕ → List ℕ → ℕ → List ℕ → Outcome

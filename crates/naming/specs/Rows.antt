@@ -1,12 +1,11 @@
 -- Full names by the rows of lent tables: what the writer of a name reads, and what it asks of the rows, which good tables have.
-use Rattle.std.specs.Prelude.{ℕ, zero, suc, ◌+◌, ◌-◌, ◌*◌, ◌<◌, ◌≤◌, ◌≡◌, Bool, true, false, not, ◌&&◌, List, ◌∷◌, ◌++◌, ltb, eqb, length, get_or}
+use Rattle.std.specs.Prelude.{ℕ, zero, suc, ◌+◌, ◌-◌, ◌*◌, ◌<◌, ◌≤◌, ◌≡◌, Bool, true, false, not, ◌&&◌, List, ◌∷◌, ◌++◌, ltb, eqb, length, get_or, Err}
 use Rattle.ground.specs.Choice.{pick}
 use Rattle.ground.specs.Refusals.{at, refusal}
 use Rattle.ground.specs.Regions.{part}
 use Rattle.netlist.specs.Netlist.{indexed_meta, ident_meta}
 use Rattle.writing.specs.Decimal.{signed}
 use Rattle.naming.specs.Names.{Outcome, made, given}
-use Rattle.naming.specs.declared.Named.TheVariants as named
 
 -- a word of a row; a row has 16
 abbrev pub field_at : List ℕ → ℕ → ℕ → ℕ
@@ -39,4 +38,4 @@ pub record Rising (count : ℕ) (metas : List ℕ) : Type 0 where
 -- 16, then 24
 unfoldable pub asked : ℕ → List ℕ → List ℕ → ℕ → List ℕ → Outcome
 asked count metas strings row room =
-    pick (not (ident_at count metas row)) (made (named.Refused (refusal 16 (at 0))) room) (given (name_at row metas strings row) room)
+    pick (not (ident_at count metas row)) (made (Err (refusal 16 (at 0))) room) (given (name_at row metas strings row) room)

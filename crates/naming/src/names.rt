@@ -40,10 +40,8 @@ fn put_string(room: &mut [u8], n: usize, pool: &[u8], from: u32, size: u32) -> u
     let start = wide(from);
     let end = end_of(start, size, pool.len());
     let mut n = n;
-    let mut i = start;
-    while i < end {
+    for i in start..end {
         n = put(room, n, pool[i]);
-        i += 1;
     }
     n
 }

@@ -1,5 +1,6 @@
 -- Good tables, and what is asked of lent tables: refusals 1, 15 and 18.
-use Rattle.std.specs.Prelude.{ℕ, ◌+◌, Bool, true, false, ◌&&◌, ◌||◌, List, [], ◌∷◌, ltb, length}
+use Rattle.ground.specs.declared.Refusal.{Refusal}
+use Rattle.std.specs.Prelude.{ℕ, ◌+◌, Bool, true, false, ◌&&◌, ◌||◌, List, [], ◌∷◌, ltb, length, Result, Ok, Err}
 use Rattle.ground.specs.Choice.{pick}
 use Rattle.ground.specs.Lists.{all_of}
 use Rattle.ground.specs.Refusals.{at, refusal}
@@ -9,10 +10,6 @@ use Rattle.netlist.specs.Netlist.{Io, Netlist, strings_of, members_of, attr_bits
 use Rattle.netlist.specs.Rules.{valid}
 use Rattle.netlist.specs.Tables.{Tables, meta_rows, io_rows, cell_rows, run_rows, io_start, cell_start, rows_length, strings_length, bits_length, tables_in}
 use Rattle.netlist.specs.View.{view}
-use Rattle.netlist.specs.declared.Checked.{Checked}
-use Rattle.netlist.specs.declared.Checked.TheVariants as checked
-use Rattle.netlist.specs.declared.Found.{Found}
-use Rattle.netlist.specs.declared.Found.TheVariants as found
 
 -- every region holds the rows of the netlist, and zeros behind them
 unfoldable pub laid : Netlist → Tables → Bool
@@ -38,27 +35,27 @@ unfoldable pub short : List ℕ → List ℕ → List ℕ → Bool
 short rows strings bits = ltb (length rows) rows_length || (ltb (length strings) strings_length || ltb (length bits) bits_length)
 
 -- THE CHECK OF TABLES: 1, then 15 "tables aren't good"
-unfoldable pub check_of : List ℕ → List ℕ → List ℕ → Checked
+unfoldable pub check_of : List ℕ → List ℕ → List ℕ → Result (Unit {0}) Refusal
 check_of rows strings bits =
-    pick (short rows strings bits) (checked.Refused (refusal 1 (at 0)))
-    (pick (good (tables_in rows strings bits)) checked.Good
-    (checked.Refused (refusal 15 (at 0))))
+    pick (short rows strings bits) (Err (refusal 1 (at 0)))
+    (pick (good (tables_in rows strings bits)) (Ok tt)
+    (Err (refusal 15 (at 0))))
 
 -- the netlist that lent tables show
 abbrev pub netlist_in : List ℕ → List ℕ → List ℕ → Netlist
 netlist_in rows strings bits = view (tables_in rows strings bits)
 
 -- THE I/O LOOKUP. Document 01, I/O: "A lookup gives the first I/O row whose name equals the asked one"; 18: "no I/O row has the asked name"
-unfoldable pub io_from : List Io → ℕ → List ℕ → Found
-io_from [] row name = found.Refused (refusal 18 (at 0))
-io_from (i ∷ is) row name = elim (same i.name name) [ true ↦ found.Row row i.width | false ↦ io_from is (row + 1) name ]
+unfoldable pub io_from : List Io → ℕ → List ℕ → Result (ℕ × ℕ) Refusal
+io_from [] row name = Err (refusal 18 (at 0))
+io_from (i ∷ is) row name = elim (same i.name name) [ true ↦ Ok (row, i.width) | false ↦ io_from is (row + 1) name ]
 
-abbrev pub lookup : Netlist → List ℕ → Found
+abbrev pub lookup : Netlist → List ℕ → Result (ℕ × ℕ) Refusal
 lookup N name = io_from N.ios 0 name
 
-abbrev pub found_after : Checked → Found → Found
-found_after checked.Good f = f
-found_after (checked.Refused g) f = found.Refused g
+abbrev pub found_after : Result (Unit {0}) Refusal → Result (ℕ × ℕ) Refusal → Result (ℕ × ℕ) Refusal
+found_after (Ok tt) f = f
+found_after (Err g) f = Err g
 
-unfoldable pub lookup_of : List ℕ → List ℕ → List ℕ → List ℕ → Found
+unfoldable pub lookup_of : List ℕ → List ℕ → List ℕ → List ℕ → Result (ℕ × ℕ) Refusal
 lookup_of rows strings bits name = found_after (check_of rows strings bits) (lookup (netlist_in rows strings bits) name)

@@ -3,17 +3,3 @@
 #![tactic(auto)]
 
 use ground::Refusal;
-
-// What the check of tables answers.
-#[derive(Clone, Copy)]
-pub enum Checked {
-    Good,
-    Refused(Refusal),
-}
-
-// The I/O row found, and its width.
-#[derive(Clone, Copy)]
-pub enum Found {
-    Row(usize, u32),
-    Refused(Refusal),
-}

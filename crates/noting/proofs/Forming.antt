@@ -1,4 +1,7 @@
 -- Every declaration that the form takes brings what a declaration of good form has.
+use Rattle.form.specs.Form.{Form}
+use Rattle.lexis.specs.Took.{Took, after}
+use Rattle.std.specs.Prelude.{Ok, Err, Some, None}
 use mathlib.Core.Path.{◌≡◌, refl, ap, subst}
 use mathlib.Core.Bool.{Bool, true, false, ◌||◌}
 use mathlib.Core.List.{List}
@@ -15,11 +18,9 @@ use Rattle.kinds.proofs.Widths.{picked}
 use Rattle.lexis.specs.Tokens.{token_at, inside_at, line_end, text_end, constant, number, meta, io, cell, string}
 use Rattle.lexis.specs.declared.Reader.{Reader}
 use Rattle.lexis.specs.declared.Token.{Token}
-use Rattle.lexis.specs.declared.Step.{Step}
-use Rattle.lexis.specs.declared.Step.TheVariants as step
 use Rattle.brackets.specs.Words.{is_sort, is_mark, is_spelled, is_word, kind_of}
 use Rattle.brackets.specs.Parts.{is_part, part_of, part_width, str, no_operand, operand, concat_at, closed_operand, operand_from, operand_at, parts_at, set_at, members_at}
-use Rattle.form.specs.Forms.{only, after, after_operand, after_ref, after_set, after_point, mark_at, ended, set_form, point_at, source_form, link_of, link_from, link_at, option_from, option_at, is_label, label_of, scope_form, ident_form, is_payload, payload_of, attr_form, meta_form, io_form, operand_if, meta_from, meta_if, wiring_form, named_form, cell_form, body_form, is_opening, open_form, form_at}
+use Rattle.form.specs.Forms.{only, mark_at, ended, set_form, point_at, source_form, link_of, link_from, link_at, option_from, option_at, is_label, label_of, scope_form, ident_form, is_payload, payload_of, attr_form, meta_form, io_form, operand_if, meta_from, meta_if, wiring_form, named_form, cell_form, body_form, is_opening, open_form, form_at}
 use Rattle.brackets.specs.declared.Str.{Str}
 use Rattle.brackets.specs.declared.Ref.{Ref}
 use Rattle.brackets.specs.declared.Operand.{Operand}
@@ -27,91 +28,81 @@ use Rattle.form.specs.declared.Point.{Point}
 use Rattle.form.specs.declared.Decl.{Decl}
 use Rattle.form.specs.declared.Decl.TheVariants as decl
 use Rattle.form.specs.declared.Declared.{Declared}
-use Rattle.form.specs.declared.Form.{Form}
-use Rattle.form.specs.declared.Form.TheVariants as form
-use Rattle.brackets.specs.declared.Measured.{Measured}
-use Rattle.brackets.specs.declared.Measured.TheVariants as measured
-use Rattle.brackets.specs.declared.Taken.{Taken}
-use Rattle.brackets.specs.declared.Taken.TheVariants as taken
-use Rattle.form.specs.declared.Pointed.{Pointed}
-use Rattle.form.specs.declared.Pointed.TheVariants as pointed
-use Rattle.form.specs.declared.Linked.{Linked}
-use Rattle.form.specs.declared.Linked.TheVariants as linked
 use Rattle.brackets.proofs.Sums.{set_count, operand_sum}
 use Rattle.saying.proofs.Tokens.{Nothing, SoundToken, SoundStep, indexes, token_sound, inside_sound}
 use Rattle.noting.specs.Formed.{StrIn, ConstantIn, RefIn, NothingMore, LabelIn, PayloadIn, OperandIn, WiringIn, DeclIn, Formed}
 
 abbrev pub SoundForm : List ℕ → Form → Type 0
-SoundForm text (form.Took d r) = Formed text d
-SoundForm text form.End = Nothing
-SoundForm text (form.Refused g) = Nothing
+SoundForm text (Ok (Some (d, r))) = Formed text d
+SoundForm text (Ok None) = Nothing
+SoundForm text (Err g) = Nothing
 
-abbrev SoundLink : Linked → Type 0
-SoundLink (linked.Took f r) = RefIn f
-SoundLink (linked.Refused g) = Nothing
+abbrev SoundLink : Took Ref → Type 0
+SoundLink (Ok (f, r)) = RefIn f
+SoundLink (Err g) = Nothing
 
 -- an operand that is taken is given
-abbrev given_in : Taken → Type 0
-given_in (taken.Took o r) = o.given ≡ true
-given_in (taken.Refused g) = Nothing
+abbrev given_in : Took Operand → Type 0
+given_in (Ok (o, r)) = o.given ≡ true
+given_in (Err g) = Nothing
 
-closed_given : (k : ℕ) (m : Measured) → given_in (closed_operand k m)
-closed_given k (measured.Closed n r) = refl
-closed_given k (measured.Refused g) = refl
+closed_given : (k : ℕ) (m : Took ℕ) → given_in (closed_operand k m)
+closed_given k (Ok (n, r)) = refl
+closed_given k (Err g) = refl
 
-given_at : (text : List ℕ) (k : ℕ) (o : Operand) (r : Reader) → operand_at text k ≡ taken.Took o r → o.given ≡ true
+given_at : (text : List ℕ) (k : ℕ) (o : Operand) (r : Reader) → operand_at text k ≡ Ok (o, r) → o.given ≡ true
 unfolding operand_at
 given_at text k o r e = subst given_in e (go (token_at text k))
   where
-    go : (s : Step) → given_in (operand_from text k s)
-    go (step.Refused g) = refl
-    go (step.Took t q) = picked given_in (is_part t) _ _ refl (picked given_in (is_mark 91 t) _ _ (closed_given k (concat_at text q.next.at)) refl)
+    go : (s : Took Token) → given_in (operand_from text k s)
+    go (Err g) = refl
+    go (Ok (t, q)) = picked given_in (is_part t) _ _ refl (picked given_in (is_mark 91 t) _ _ (closed_given k (concat_at text q.next.at)) refl)
 
 module _ (text : List ℕ) where
   either : (b : Bool) (x y : Form) → SoundForm text x → SoundForm text y → SoundForm text (pick b x y)
   either b x y p q = picked (SoundForm text) b x y p q
 
   -- what follows a token of any sort, and one that passes a test
-  after_any : (s : Step) (go : Token → ℕ → Form) → SoundStep text s → ((t : Token) (k : ℕ) → SoundToken text t → SoundForm text (go t k)) → SoundForm text (after s go)
-  after_any (step.Took t r) go h f = f t r.next.at h
-  after_any (step.Refused g) go h f = refl
+  after_any : (s : Took Token) (go : Token → ℕ → Form) → SoundStep text s → ((t : Token) (k : ℕ) → SoundToken text t → SoundForm text (go t k)) → SoundForm text (after s go)
+  after_any (Ok (t, r)) go h f = f t r.next.at h
+  after_any (Err g) go h f = refl
 
-  after_only : (p : Token → Bool) (s : Step) (go : Token → ℕ → Form) → SoundStep text s → ((t : Token) (k : ℕ) → p t ≡ true → SoundToken text t → SoundForm text (go t k)) → SoundForm text (after (only p s) go)
-  after_only p (step.Took t r) go h f = bool_cases (p t) (λ e. rw e (f t r.next.at e h)) (λ e. rw e refl)
-  after_only p (step.Refused g) go h f = refl
+  after_only : (p : Token → Bool) (s : Took Token) (go : Token → ℕ → Form) → SoundStep text s → ((t : Token) (k : ℕ) → p t ≡ true → SoundToken text t → SoundForm text (go t k)) → SoundForm text (after (only p s) go)
+  after_only p (Ok (t, r)) go h f = bool_cases (p t) (λ e. rw e (f t r.next.at e h)) (λ e. rw e refl)
+  after_only p (Err g) go h f = refl
 
-  after_ref_lem : (l : Linked) (go : Ref → ℕ → Form) → SoundLink l → ((r : Ref) (k : ℕ) → RefIn r → SoundForm text (go r k)) → SoundForm text (after_ref l go)
-  after_ref_lem (linked.Took f r) go h g = g f r.next.at h
-  after_ref_lem (linked.Refused x) go h g = refl
+  after_ref_lem : (l : Took Ref) (go : Ref → ℕ → Form) → SoundLink l → ((r : Ref) (k : ℕ) → RefIn r → SoundForm text (go r k)) → SoundForm text (after l go)
+  after_ref_lem (Ok (f, r)) go h g = g f r.next.at h
+  after_ref_lem (Err x) go h g = refl
 
-  after_operand_lem : (has : Bool) (at : ℕ) (go : Operand → ℕ → Form) → ((o : Operand) (k : ℕ) → OperandIn text has o → SoundForm text (go o k)) → SoundForm text (after_operand (operand_if has text at) go)
+  after_operand_lem : (has : Bool) (at : ℕ) (go : Operand → ℕ → Form) → ((o : Operand) (k : ℕ) → OperandIn text has o → SoundForm text (go o k)) → SoundForm text (after (operand_if has text at) go)
   unfolding operand_if parts_at total
   after_operand_lem true at go f = step (operand_at text at) refl
     where
-      step : (o : Taken) → operand_at text at ≡ o → SoundForm text (after_operand o go)
-      step (taken.Took o r) e = f o r.next.at (record { given = given_at text at o r e; width = operand_sum text at o r e })
-      step (taken.Refused g) e = refl
+      step : (o : Took Operand) → operand_at text at ≡ o → SoundForm text (after o go)
+      step (Ok (o, r)) e = f o r.next.at (record { given = given_at text at o r e; width = operand_sum text at o r e })
+      step (Err g) e = refl
   after_operand_lem false at go f = f no_operand at (record { given = refl; width = refl })
 
-  after_point_lem : (o : Pointed) (go : Point → ℕ → Form) → ((o : Point) (k : ℕ) → SoundForm text (go o k)) → SoundForm text (after_point o go)
-  after_point_lem (pointed.Took o r) go f = f o r.next.at
-  after_point_lem (pointed.Refused g) go f = refl
+  after_point_lem : (o : Took Point) (go : Point → ℕ → Form) → ((o : Point) (k : ℕ) → SoundForm text (go o k)) → SoundForm text (after o go)
+  after_point_lem (Ok (o, r)) go f = f o r.next.at
+  after_point_lem (Err g) go f = refl
 
-  after_set_lem : (at : ℕ) (go : ℕ → ℕ → Form) → ((n k : ℕ) → n ≡ length (members_at text at) → SoundForm text (go n k)) → SoundForm text (after_set (set_at text at) go)
+  after_set_lem : (at : ℕ) (go : ℕ → ℕ → Form) → ((n k : ℕ) → n ≡ length (members_at text at) → SoundForm text (go n k)) → SoundForm text (after (set_at text at) go)
   after_set_lem at go f = step (set_at text at) refl
     where
-      step : (o : Measured) → set_at text at ≡ o → SoundForm text (after_set o go)
-      step (measured.Closed n r) e = f n r.next.at (set_count text at n r e)
-      step (measured.Refused g) e = refl
+      step : (o : Took ℕ) → set_at text at ≡ o → SoundForm text (after o go)
+      step (Ok (n, r)) e = f n r.next.at (set_count text at n r e)
+      step (Err g) e = refl
 
   -- references
-  link_of_lem : (s : Step) → SoundStep text s → SoundLink (link_of (only (is_sort meta) s))
-  link_of_lem (step.Took t r) h = bool_cases (is_sort meta t) (λ e. rw e (record { small = h.index (or_left (is_sort meta t) (is_sort io t || is_sort cell t) e) })) (λ e. rw e refl)
-  link_of_lem (step.Refused g) h = refl
+  link_of_lem : (s : Took Token) → SoundStep text s → SoundLink (link_of (only (is_sort meta) s))
+  link_of_lem (Ok (t, r)) h = bool_cases (is_sort meta t) (λ e. rw e (record { small = h.index (or_left (is_sort meta t) (is_sort io t || is_sort cell t) e) })) (λ e. rw e refl)
+  link_of_lem (Err g) h = refl
 
-  link_from_lem : (s : Step) → SoundLink (link_from text s)
-  link_from_lem (step.Took t r) = link_of_lem (token_at text r.next.at) (token_sound text r.next.at)
-  link_from_lem (step.Refused g) = refl
+  link_from_lem : (s : Took Token) → SoundLink (link_from text s)
+  link_from_lem (Ok (t, r)) = link_of_lem (token_at text r.next.at) (token_sound text r.next.at)
+  link_from_lem (Err g) = refl
 
   link_sound : (k : ℕ) → SoundLink (link_at text k)
   unfolding link_at
@@ -121,17 +112,17 @@ module _ (text : List ℕ) where
   unfolding option_at
   option_sound w k = go (token_at text k)
     where
-      go : (s : Step) → SoundLink (option_from text w k s)
-      go (step.Took t r) = picked SoundLink (is_spelled text w t) _ _ (link_sound r.next.at) (record { small = omega arith })
-      go (step.Refused g) = refl
+      go : (s : Took Token) → SoundLink (option_from text w k s)
+      go (Ok (t, r)) = picked SoundLink (is_spelled text w t) _ _ (link_sound r.next.at) (record { small = omega arith })
+      go (Err g) = refl
 
   meta_sound : (k : ℕ) → SoundLink (meta_if text k)
   unfolding meta_if
   meta_sound k = go (token_at text k) (token_sound text k)
     where
-      go : (s : Step) → SoundStep text s → SoundLink (meta_from k s)
-      go (step.Took t r) h = bool_cases (is_sort meta t) (λ e. rw e (record { small = h.index (or_left (is_sort meta t) (is_sort io t || is_sort cell t) e) })) (λ e. rw e (record { small = omega arith }))
-      go (step.Refused g) h = refl
+      go : (s : Took Token) → SoundStep text s → SoundLink (meta_from k s)
+      go (Ok (t, r)) h = bool_cases (is_sort meta t) (λ e. rw e (record { small = h.index (or_left (is_sort meta t) (is_sort io t || is_sort cell t) e) })) (λ e. rw e (record { small = omega arith }))
+      go (Err g) h = refl
 
   -- a string token
   string_of : (t : Token) → is_sort string t ≡ true → SoundToken text t → StrIn text (str t)
@@ -241,5 +232,5 @@ module _ (text : List ℕ) where
   form_sound k = after_any (inside_at text k) _ (inside_sound text k) (λ t k1 h. open_sound t h k1)
 
 -- THE DECLARATION THAT IS TAKEN
-pub formed : (text : List ℕ) (k : ℕ) (d : Declared) (r : Reader) → form_at text k ≡ form.Took d r → Formed text d
+pub formed : (text : List ℕ) (k : ℕ) (d : Declared) (r : Reader) → form_at text k ≡ Ok (Some (d, r)) → Formed text d
 formed text k d r e = subst (SoundForm text) e (form_sound text k)

@@ -1,4 +1,5 @@
 -- One I/O row more: the rules, the notes and the tally.
+use Rattle.std.specs.Prelude.{Ok, Err}
 use mathlib.Core.Path.{◌≡◌, refl, sym, ap, ◌∙◌}
 use mathlib.Core.Bool.{Bool, true, false, not}
 use mathlib.Core.List.{List, [], ◌∷◌, ◌++◌}
@@ -28,10 +29,8 @@ use Rattle.saying.specs.Notes.{IoNote, io_note, ios_said, Spells, SpellIos, none
 use Rattle.asking.specs.Namesakes.{IosNoted}
 use Rattle.asking.proofs.RowLaws.{joined_length}
 use Rattle.noting.specs.Noted.{metas_in, members_in, ios_in, cells_in, runs_in, IosHeld, Tallied, Noted, After}
-use Rattle.noting.specs.declared.Noting.TheVariants as noting
 use Rattle.noting.specs.Rulings.{ruling_of, io_more, io_in, io_limits, io_rules, io_declared, io_tally, IoRoom}
 use Rattle.noting.specs.Formed.{StrIn}
-use Rattle.noting.specs.declared.Ruling.TheVariants as ruling
 use Rattle.noting.specs.declared.Tally.{Tally}
 use Rattle.noting.proofs.Flat.{put, length_put, part_put, part_before, part_after}
 use Rattle.noting.proofs.Growing.{joined_last, map_last, length_last, last_of_every}
@@ -126,27 +125,27 @@ io_noted text so n rows bits work i at d s a b c =
 
 -- HOW THE RULES COME OUT
 module _ (N : Netlist) (i : Io) (place : Place) where
-  pub io_nameless : length i.name ≡ 0 → ruling.Refused (refusal 11 place) ≡ ruling_of (io_limits N i place)
+  pub io_nameless : length i.name ≡ 0 → Err (refusal 11 place) ≡ ruling_of (io_limits N i place)
   io_nameless e = rw (eq-eqb (length i.name) 0 e)
 
   module _ (e : length i.name ≡ 0 → ⊥) where
-    pub io_misfit : wide i.width ≡ false → ruling.Refused (refusal 12 place) ≡ ruling_of (io_limits N i place)
+    pub io_misfit : wide i.width ≡ false → Err (refusal 12 place) ≡ ruling_of (io_limits N i place)
     io_misfit w = rw (ne_eqb (length i.name) 0 e, w)
 
-    pub io_cramps : wide i.width ≡ true → not (roomy (io_more N i)) ≡ true → ruling.Refused (refusal 13 place) ≡ ruling_of (io_limits N i place)
+    pub io_cramps : wide i.width ≡ true → not (roomy (io_more N i)) ≡ true → Err (refusal 13 place) ≡ ruling_of (io_limits N i place)
     io_cramps w r = rw (ne_eqb (length i.name) 0 e, w, r)
 
-    pub io_passes : wide i.width ≡ true → not (roomy (io_more N i)) ≡ false → ruling.Passed ≡ ruling_of (io_limits N i place)
+    pub io_passes : wide i.width ≡ true → not (roomy (io_more N i)) ≡ false → Ok tt ≡ ruling_of (io_limits N i place)
     io_passes w r = rw (ne_eqb (length i.name) 0 e, w, r)
 
-  pub io_twice : taken i.name (io_names N.ios) ≡ true → ruling.Refused (refusal 9 place) ≡ ruling_of (io_rules N i place)
+  pub io_twice : taken i.name (io_names N.ios) ≡ true → Err (refusal 9 place) ≡ ruling_of (io_rules N i place)
   io_twice e = rw e
 
   pub io_once : taken i.name (io_names N.ios) ≡ false → ruling_of (io_limits N i place) ≡ ruling_of (io_rules N i place)
   io_once e = rw e
 
   -- what passes is within each limit
-  pub io_passed : (n : Tally) → Tallied N n → ruling_of (io_rules N i place) ≡ ruling.Passed → IoPassed N i n
+  pub io_passed : (n : Tally) → Tallied N n → ruling_of (io_rules N i place) ≡ Ok tt → IoPassed N i n
   io_passed n t p =
       let f = passes_four (taken i.name (io_names N.ios)) (is_empty i.name) (not (wide i.width)) (not (roomy (io_more N i))) (refusal 9 place) (refusal 11 place) (refusal 12 place) (refusal 13 place) p in
       let r = roomy_is (io_more N i) (not_false (roomy (io_more N i)) f.3) in
@@ -178,8 +177,8 @@ io_room text N name width n short s p =
 
 -- a declaration that passes is noted
 pub io_after : (text : List ℕ) (so : Sofar) (n : Tally) (rows bits work : List ℕ) (place : Place) (index : ℕ) (name : Str) (width : ℕ) → Noted text so n rows bits work → StrIn text name
-    → ruling_of (io_rules so.netlist (io_in text name width) place) ≡ ruling.Passed
-    → After text so (io_declared place index name width) (noting.More (io_tally n name.size)) (put 9219 192 rows (sets (part 9219 192 rows) (n.ios * 3) (name.from ∷ name.size ∷ width ∷ []))) bits work
+    → ruling_of (io_rules so.netlist (io_in text name width) place) ≡ Ok tt
+    → After text so (io_declared place index name width) (Ok (io_tally n name.size)) (put 9219 192 rows (sets (part 9219 192 rows) (n.ios * 3) (name.from ∷ name.size ∷ width ∷ []))) bits work
 unfolding said_by added
 io_after text so n rows bits work place index name width d s r =
     let i = io_in text name width in
@@ -188,7 +187,7 @@ io_after text so n rows bits work place index name width d s r =
     (io_rules_lem text so place index name width ∙ passed_none (io_rules so.netlist i place) r, rw s.size w)
 
 pub io_refused : (text : List ℕ) (so : Sofar) (place : Place) (index : ℕ) (name : Str) (width : ℕ) (g : Refusal)
-    → ruling_of (io_rules so.netlist (io_in text name width) place) ≡ ruling.Refused g → ruled_out text so (io_declared place index name width) ≡ some g
+    → ruling_of (io_rules so.netlist (io_in text name width) place) ≡ Err g → ruled_out text so (io_declared place index name width) ≡ some g
 io_refused text so place index name width g r = io_rules_lem text so place index name width ∙ refused_some (io_rules so.netlist (io_in text name width) place) g r
 
 -- what the ruling asks stands there

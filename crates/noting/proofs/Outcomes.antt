@@ -1,6 +1,7 @@
 -- What the contracts of `note_meta`, `note_io` and `note_cell` fix, given what was said before: the answer, that is, the refusal with its
 -- place, or the tally but for its note of bare parts: that tells only how rule 14 is asked. Of the tables they fix what is noted; a string's
 -- place may be any at which the text spells it.
+use Rattle.std.specs.Prelude.{Result, Ok, Err}
 use mathlib.Core.Path.{◌≡◌, refl, sym, ap, ◌∙◌}
 use mathlib.Core.Bool.{false}
 use mathlib.Core.List.{List}
@@ -19,13 +20,9 @@ use Rattle.netlist.specs.Rules.{output_bits}
 use Rattle.saying.specs.Rules.{Sofar}
 use Rattle.noting.specs.Noted.{Tallied, After}
 use Rattle.noting.specs.declared.Tally.{Tally}
-use Rattle.noting.specs.declared.Noting.{Noting}
-use Rattle.noting.specs.declared.Noting.TheVariants as noting
-use Rattle.noting.specs.declared.Ruling.{Ruling}
-use Rattle.noting.specs.declared.Ruling.TheVariants as ruling
 
-pub one_refusal : (number : ℕ) (place : Place) (o p : Ruling) → o ≡ ruling.Refused (refusal number place) → p ≡ ruling.Refused (refusal number place) → o ≡ p
-one_refusal number = any_two (λ (place : Place). ruling.Refused (refusal number place))
+pub one_refusal : (number : ℕ) (place : Place) (o p : Result (Unit {0}) Refusal) → o ≡ Err (refusal number place) → p ≡ Err (refusal number place) → o ≡ p
+one_refusal number = any_two (λ (place : Place). Err (refusal number place))
 
 -- the tally of a netlist
 abbrev tally_of : Netlist → Tally
@@ -59,9 +56,9 @@ counts n = record {
   bare = false;
 }
 
-abbrev pub counted : Noting → Noting
-counted (noting.Refused g) = noting.Refused g
-counted (noting.More n) = noting.More (counts n)
+abbrev pub counted : Result Tally Refusal → Result Tally Refusal
+counted (Err g) = Err g
+counted (Ok n) = Ok (counts n)
 
 tallied : (N : Netlist) (n : Tally) → Tallied N n → counts n ≡ tally_of N
 tallied N n t = rw (t.metas, t.ios, t.cells, t.members, t.trits, t.runs, t.known, t.declared, t.outputs, t.strings)
@@ -77,8 +74,8 @@ never_told : (g : Refusal) (o : Option Refusal) → o ≡ none → o ≡ some g 
 never_told g o a b = let z : ◌≡◌ {A = ℕ} 0 1 = cc in omega arith
 
 module _ (text : List ℕ) (so : Sofar) (d : Declared) (a x u b y v : List ℕ) where
-  pub one_answer : (o p : Noting) → After text so d o a x u → After text so d p b y v → counted o ≡ counted p
-  one_answer (noting.Refused g) (noting.Refused h) s t = ap noting.Refused (ap (told g) (sym s ∙ t))
-  one_answer (noting.Refused g) (noting.More m) s t = absurd (never_told g _ t.0 s)
-  one_answer (noting.More n) (noting.Refused h) s t = absurd (never_told h _ s.0 t)
-  one_answer (noting.More n) (noting.More m) s t = ap noting.More (one_tally _ n m s.1.tally t.1.tally)
+  pub one_answer : (o p : Result Tally Refusal) → After text so d o a x u → After text so d p b y v → counted o ≡ counted p
+  one_answer (Err g) (Err h) s t = ap Err (ap (told g) (sym s ∙ t))
+  one_answer (Err g) (Ok m) s t = absurd (never_told g _ t.0 s)
+  one_answer (Ok n) (Err h) s t = absurd (never_told h _ s.0 t)
+  one_answer (Ok n) (Ok m) s t = ap Ok (one_tally _ n m s.1.tally t.1.tally)

@@ -1,4 +1,5 @@
 -- What passes a chain of rules passes each, and a chain that refuses refuses by one.
+use Rattle.std.specs.Prelude.{Result, Ok, Err}
 use mathlib.Core.Path.{◌≡◌, refl, sym, ap, ◌∙◌}
 use mathlib.Core.Bool.{Bool, true, false, not}
 use mathlib.Core.List.{List, [], ◌∷◌}
@@ -15,18 +16,16 @@ use Rattle.saying.specs.Notes.{Spells}
 use Rattle.ground.specs.Lists.{all_of}
 use borrow.Author.Tests.{lt-ltb, le-ltb, le-leb, lt-leb, eq-eqb, ne_eqb}
 use Rattle.noting.specs.Rulings.{ruling_of}
-use Rattle.noting.specs.declared.Ruling.{Ruling}
-use Rattle.noting.specs.declared.Ruling.TheVariants as ruling
 
-pub never_passed : {P : Type 0} (g : Refusal) → ruling.Refused g ≡ ruling.Passed → P
-never_passed g e = let z : ◌≡◌ {A = ℕ} 0 1 = cc in absurd (omega arith)
+pub never_passed : {P : Type 0} (g : Refusal) → ◌≡◌ {A = Result (Unit {0}) Refusal} (Err g) (Ok tt) → P
+never_passed g e = absurd cc
 
-pub passes : (b : Bool) (g : Refusal) (rest : Option Refusal) → ruling_of (pick b (some g) rest) ≡ ruling.Passed → (b ≡ false) × (ruling_of rest ≡ ruling.Passed)
+pub passes : (b : Bool) (g : Refusal) (rest : Option Refusal) → ruling_of (pick b (some g) rest) ≡ Ok tt → (b ≡ false) × (ruling_of rest ≡ Ok tt)
 passes true g rest e = never_passed g e
 passes false g rest e = (refl, e)
 
 -- four rules, one after the other
-pub passes_four : (a b c d : Bool) (g h k l : Refusal) → ruling_of (pick a (some g) (pick b (some h) (pick c (some k) (pick d (some l) none)))) ≡ ruling.Passed
+pub passes_four : (a b c d : Bool) (g h k l : Refusal) → ruling_of (pick a (some g) (pick b (some h) (pick c (some k) (pick d (some l) none)))) ≡ Ok tt
     → (a ≡ false) × (b ≡ false) × (c ≡ false) × (d ≡ false)
 passes_four a b c d g h k l e =
     let p = passes a g (pick b (some h) (pick c (some k) (pick d (some l) none))) e in
@@ -35,15 +34,15 @@ passes_four a b c d g h k l e =
     let s = passes d l none r.1 in
     (p.0, q.0, r.0, s.0)
 
-pub passed_none : (x : Option Refusal) → ruling_of x ≡ ruling.Passed → x ≡ none
+pub passed_none : (x : Option Refusal) → ruling_of x ≡ Ok tt → x ≡ none
 passed_none none e = refl
 passed_none (some g) e = never_passed g e
 
-pub refused_some : (x : Option Refusal) (g : Refusal) → ruling_of x ≡ ruling.Refused g → x ≡ some g
+pub refused_some : (x : Option Refusal) (g : Refusal) → ruling_of x ≡ Err g → x ≡ some g
 refused_some none g e = never_passed g (sym e)
 refused_some (some h) g e = ap some (same h g e)
   where
-    same : (h g : Refusal) → ruling.Refused h ≡ ruling.Refused g → h ≡ g
+    same : (h g : Refusal) → ◌≡◌ {A = Result (Unit {0}) Refusal} (Err h) (Err g) → h ≡ g
     same h g e = cc
 
 pub not_false : (b : Bool) → not b ≡ false → b ≡ true

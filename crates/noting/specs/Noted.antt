@@ -1,5 +1,5 @@
 -- What stands in the lent tables and the work space while a text is read: notes of all that was said so far.
-use Rattle.std.specs.Prelude.{◌≡◌, ℕ, ◌+◌, ◌*◌, ◌<◌, ◌≤◌, Bool, true, false, List, [], ◌∷◌, map, length}
+use Rattle.std.specs.Prelude.{◌≡◌, ℕ, ◌+◌, ◌*◌, ◌<◌, ◌≤◌, Bool, true, false, List, [], ◌∷◌, map, length, Result, Ok, Err}
 use Rattle.std.proofs.Math.Option.{Option, none, some}
 use Rattle.ground.specs.Lists.{joined, total}
 use Rattle.ground.specs.Regions.{pad, part}
@@ -15,8 +15,6 @@ use Rattle.laying.specs.Holding.{Holds}
 use Rattle.laying.specs.Bare.{Covers}
 use Rattle.laying.specs.declared.Laid.{Laid}
 use Rattle.noting.specs.declared.Tally.{Tally}
-use Rattle.noting.specs.declared.Noting.{Noting}
-use Rattle.noting.specs.declared.Noting.TheVariants as noting
 
 -- THE REGIONS of the lent slices: docs/LAYOUT.md. The work space has a map for cell numbers, one for metadata numbers, and the places
 -- where the operands of each cell are read.
@@ -115,7 +113,7 @@ pub record NotedSome (text : List ℕ) (n : Tally) (rows bits work : List ℕ) :
   pub noted : Noted text so n rows bits work
 
 -- AFTER A DECLARATION: refused as the rules say, or noted with what was said before
-abbrev pub After : List ℕ → Sofar → Declared → Noting → List ℕ → List ℕ → List ℕ → Type 0
-After text so d (noting.Refused g) rows bits work = ruled_out text so d ≡ some g
-After text so d (noting.More n) rows bits work =
+abbrev pub After : List ℕ → Sofar → Declared → Result Tally Refusal → List ℕ → List ℕ → List ℕ → Type 0
+After text so d (Err g) rows bits work = ruled_out text so d ≡ some g
+After text so d (Ok n) rows bits work =
     (ruled_out text so d ≡ none) × Noted text (added so d.index (said_by text so d.decl)) n rows bits work

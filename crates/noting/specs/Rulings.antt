@@ -1,5 +1,5 @@
 -- How rules 9 to 13 come out for a declaration, and what is said with one row more.
-use Rattle.std.specs.Prelude.{ℕ, ◌+◌, ◌<◌, ◌≤◌, not, List, [], ◌∷◌, ◌++◌}
+use Rattle.std.specs.Prelude.{ℕ, ◌+◌, ◌<◌, ◌≤◌, not, List, [], ◌∷◌, ◌++◌, Result, Ok, Err}
 use Rattle.std.proofs.Math.Option.{Option, none, some}
 use Rattle.ground.specs.Choice.{pick}
 use Rattle.ground.specs.Refusals.{refusal}
@@ -15,12 +15,10 @@ use Rattle.saying.specs.Values.{string_in}
 use Rattle.saying.specs.Rules.{Sofar}
 use Rattle.noting.specs.Noted.{Noted}
 use Rattle.noting.specs.declared.Tally.{Tally}
-use Rattle.noting.specs.declared.Ruling.{Ruling}
-use Rattle.noting.specs.declared.Ruling.TheVariants as ruling
 
-abbrev pub ruling_of : Option Refusal → Ruling
-ruling_of none = ruling.Passed
-ruling_of (some g) = ruling.Refused g
+abbrev pub ruling_of : Option Refusal → Result (Unit {0}) Refusal
+ruling_of none = Ok tt
+ruling_of (some g) = Err g
 
 abbrev pub io_more : Netlist → Io → Netlist
 io_more N i = record { metas = N.metas; ios = N.ios ++ (i ∷ []); cells = N.cells }

@@ -3,14 +3,14 @@
 // loop over them and reading above.
 #![tactic(auto)]
 
-ghost use Rattle.std.specs.Prelude.{◌≡◌};
+ghost use Rattle.std.specs.Prelude.{◌≡◌, Err};
 ghost use Rattle.ground.specs.Refusals.{refusal};
-ghost use Rattle.noting.specs.declared.Ruling.TheVariants.{Refused};
 
 use ground::{Place, Refusal};
 
 // How much the text brought so far: rows, members of sets, trits of attributes, runs, known trits in them, declared cell bits,
-// output bits, and bytes of strings; and whether a part without bits was read, of which the runs tell nothing.
+// output bits, and bytes of strings; and whether a part without bits was read, of which the runs tell nothing. That flag is a fact of its own: the
+// numbers count either way.
 #[derive(Clone, Copy)]
 pub struct Tally {
     pub metas: usize,
@@ -26,23 +26,9 @@ pub struct Tally {
     pub bare: bool,
 }
 
-// A declaration more is noted, or why it is refused.
-#[derive(Clone, Copy)]
-pub enum Noting {
-    More(Tally),
-    Refused(Refusal),
-}
-
-// Whether the rules 9 to 13 let a declaration pass.
-#[derive(Clone, Copy)]
-pub enum Ruling {
-    Passed,
-    Refused(Refusal),
-}
-
 // The rule of the number, broken at the place.
-pub fn refuse(number: u8, place: Place) -> Ruling
-    ensures { result ≡ Refused (refusal number place) }
+pub fn refuse(number: u8, place: Place) -> Result<(), Refusal>
+    ensures { result ≡ Err (refusal number place) }
 {
-    Ruling::Refused(Refusal { number, place })
+    Err(Refusal { number, place })
 }

@@ -12,10 +12,8 @@ pub fn take_widths(rows: &[u32], widths: &mut [u32])
     requires { (length rows.now ≡ 4608) × (length widths.old ≤ 512) }
     ensures { widths.new ≡ row_widths (length widths.old) rows.now }
 {
-    let mut i: usize = 0;
-    while i < widths.len() {
+    for i in 0..widths.len() {
         widths[i] = rows[i * 9 + 1];
-        i += 1;
     }
 }
 
@@ -35,10 +33,8 @@ pub fn number_cells(widths: &[u32], numbers: &mut [u32])
     ensures { numbers.new ≡ numbers_by 0 widths.now }
 {
     let mut number: u32 = 0;
-    let mut i: usize = 0;
-    while i < widths.len() {
+    for i in 0..widths.len() {
         numbers[i] = number;
         number += taken_by(widths[i]);
-        i += 1;
     }
 }

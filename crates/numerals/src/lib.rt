@@ -50,6 +50,7 @@ pub fn numeral_at(text: &[u8], at: usize, limit: u32) -> Numeral
 {
     let mut n: u64 = 0;
     let mut i = at;
+    // By `while`: the place where it ends is the answer, whether a byte ended it or the text; a `for` would tell that place twice.
     while i < text.len() {
         let b = text[i];
         if is_digit(b) {

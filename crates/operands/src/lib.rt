@@ -112,12 +112,10 @@ fn put_more_runs(
     ensures { Wrote room.old n (more_runs numbers.now widths.now (up_to i end (held_runs rows.now trits.now))) room.new result }
 {
     let mut n = n;
-    let mut i = i;
-    while i < end {
+    for i in i..end {
         let k = i * 3;
         let m = put(room, n, 32);
         n = put_run(room, m, numbers, widths, &rows[k..k + 3], trits);
-        i += 1;
     }
     n
 }

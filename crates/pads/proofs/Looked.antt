@@ -1,5 +1,7 @@
 -- The search of pads that are made of the I/O rows is document 01's lookup. Each contract allows one outcome.
-use mathlib.Core.Path.{◌≡◌, refl, ap, sym, ◌∙◌}
+use Rattle.ground.specs.declared.Refusal.{Refusal}
+use Rattle.std.specs.Prelude.{Result, Ok, Err}
+use mathlib.Core.Path.{◌≡◌, ap, sym, ◌∙◌}
 use mathlib.Core.Bool.{Bool, true, false}
 use mathlib.Core.List.{List, [], ◌∷◌}
 use Prim.Native.Nat.{ℕ, zero, suc, ◌+◌, ◌*◌, ◌-◌, ◌≤◌, ◌<◌}
@@ -18,8 +20,6 @@ use Rattle.ground.proofs.Outcome.{any_two}
 use Rattle.netlist.specs.Netlist.{Io}
 use Rattle.netlist.specs.View.{word, io_in, ios_in}
 use Rattle.netlist.specs.Good.{lookup_of, io_from}
-use Rattle.netlist.specs.declared.Found.{Found}
-use Rattle.netlist.specs.declared.Found.TheVariants as found
 use Rattle.checking.specs.Names.{IosNamed}
 use Rattle.checking.specs.Parts.{strings_alone}
 use Rattle.pads.specs.declared.Pad.{Pad}
@@ -38,14 +38,14 @@ late strings name (suc n) row (p ∷ pads) = bool_cases (pad_named strings p nam
     (λ e. rw e (omega (arith, late strings name n (suc row) pads)))
 
 -- what is found among n pads from a row on, where the search tells row m
-abbrev pub upto : ℕ → ℕ → List Pad → ℕ → Found
-upto row n pads m = pick (ltb m (row + n)) (found.Row m (get_or pads (m - row) blank_pad).width) (found.Refused (refusal 18 (at 0)))
+abbrev pub upto : ℕ → ℕ → List Pad → ℕ → Result (ℕ × ℕ) Refusal
+upto row n pads m = pick (ltb m (row + n)) (Ok (m, (get_or pads (m - row) blank_pad).width)) (Err (refusal 18 (at 0)))
 
 named_io : (strings name rows : List ℕ) → word rows 0 + word rows 1 ≤ length strings → pad_named strings (pad_in rows) name ≡ same (part (word rows 0) (word rows 1) strings) name
 unfolding pad_named
 named_io strings name rows h = rw (le-ltb (length strings) (word rows 0 + word rows 1) h)
 
-found_here : (row n : ℕ) (p : Pad) (pads : List Pad) → upto row (suc n) (p ∷ pads) row ≡ found.Row row p.width
+found_here : (row n : ℕ) (p : Pad) (pads : List Pad) → upto row (suc n) (p ∷ pads) row ≡ Ok (row, p.width)
 found_here row n p pads =
     let h : row < row + suc n = omega arith in
     let e : row - row ≡ 0 = omega arith in
@@ -67,7 +67,7 @@ module _ (strings name : List ℕ) (m row : ℕ) (p : Pad) (pads : List Pad) whe
   first_not e = rw e
 
 module _ (i : Io) (is : List Io) (row : ℕ) (name : List ℕ) where
-  io_is : same i.name name ≡ true → io_from (i ∷ is) row name ≡ found.Row row i.width
+  io_is : same i.name name ≡ true → io_from (i ∷ is) row name ≡ Ok (row, i.width)
   unfolding io_from
   io_is e = rw (e, io_from)
 
@@ -117,13 +117,13 @@ module _ (strings name : List ℕ) where
     all_upto : upto 0 n (pads_in 64 rows) k ≡ io_from (shown n rows) 0 name
     all_upto = rw is (from_rows n 64 0 rows few there.each)
 
-    pub row_found : k < n → found.Row k (get_or (pads_in 64 rows) k blank_pad).width ≡ io_from (shown n rows) 0 name
+    pub row_found : k < n → Ok (k, (get_or (pads_in 64 rows) k blank_pad).width) ≡ io_from (shown n rows) 0 name
     row_found h =
         let l : k < 0 + n = omega arith in
         let z : k - 0 ≡ k = omega arith in
         (rw (lt-ltb k (0 + n) l, z) at all_upto)
 
-    pub none_found : n ≤ k → found.Refused (refusal 18 (at 0)) ≡ io_from (shown n rows) 0 name
+    pub none_found : n ≤ k → Err (refusal 18 (at 0)) ≡ io_from (shown n rows) 0 name
     none_found h =
         let l : 0 + n ≤ k = omega arith in
         (rw (le-ltb k (0 + n) l) at all_upto)
@@ -135,5 +135,5 @@ named_one strings name pad a b = any_two (λ (p : Pad). pad_named strings p name
 pub first_one : (strings name : List ℕ) (pads : List Pad) (a b : ℕ) → a ≡ first_pad strings name pads → b ≡ first_pad strings name pads → a ≡ b
 first_one strings name = any_two (first_pad strings name)
 
-pub lookup_one : (rows strings bits name : List ℕ) (a b : Found) → a ≡ lookup_of rows strings bits name → b ≡ lookup_of rows strings bits name → a ≡ b
+pub lookup_one : (rows strings bits name : List ℕ) (a b : Result (ℕ × ℕ) Refusal) → a ≡ lookup_of rows strings bits name → b ≡ lookup_of rows strings bits name → a ≡ b
 lookup_one rows strings bits = any_two (lookup_of rows strings bits)

@@ -1,5 +1,5 @@
 -- The lookup over pads. Document 01, I/O: "A lookup gives the first I/O row whose name equals the asked one".
-use Rattle.std.specs.Prelude.{Bool, true, false, List, [], ◌∷◌, ℕ, zero, suc, ◌+◌, ltb, length, drop}
+use Rattle.std.specs.Prelude.{Bool, false, List, [], ◌∷◌, ℕ, zero, suc, ◌+◌, ltb, length, drop}
 use Rattle.ground.specs.Choice.{pick}
 use Rattle.ground.specs.Regions.{part}
 use Rattle.ground.specs.Text.{same}

@@ -5,17 +5,15 @@
 
 ghost use Rattle.std.specs.Prelude.{◌≡◌, ℕ, ◌+◌, ◌*◌, ◌≤◌, ◌<◌, length, drop};
 ghost use Rattle.ground.specs.Choice.{pick};
-ghost use Rattle.ground.specs.Refusals.{at, refusal};
 ghost use Rattle.netlist.specs.Good.{lookup_of, io_from};
 ghost use Rattle.netlist.specs.View.{ios_in};
 ghost use Rattle.checking.specs.Names.{IosNamed};
 ghost use Rattle.checking.specs.Parts.{strings_alone};
 ghost use Rattle.pads.specs.Pads.{pad_in, pads_in, pad_named, first_pad};
 
-use checking::check_tables;
+use checking::{check_tables, refused};
 use comparing::same_bytes;
-use ground::{Place, Refusal};
-use netlist::{Checked, Found};
+use ground::Refusal;
 use pools::word_of;
 use regions::{ios_of, strings_of};
 use words::wide;
@@ -54,9 +52,7 @@ pub fn find_pad(strings: &[u8], pads: &[Pad], name: &[u8]) -> usize
     ensures { result ≡ first_pad strings.now name.now pads.now }
 {
     let mut found = pads.len();
-    let mut row = found;
-    while 0 < row {
-        row = row - 1;
+    for row in (0..pads.len()).rev() {
         found = found_at(found, row, strings, pads[row], name);
     }
     found
@@ -93,23 +89,14 @@ fn pads_of(ios: &[u32]) -> [Pad; 64]
         width: 0,
     };
     let mut pads = [blank; 64];
-    let mut i: usize = 0;
-    while i < 64 {
+    for i in 0..64 {
         pads[i] = pad_at(ios, i);
-        i += 1;
     }
     pads
 }
 
-fn refused(number: u8) -> Refusal
-    ensures { result ≡ refusal number (at 0) }
-{
-    let place = Place { at: 0 };
-    Refusal { number, place }
-}
-
 // The first of n I/O rows that has the name; a row behind them is none.
-fn found_in(ios: &[u32], strings: &[u8], n: usize, name: &[u8]) -> Found
+fn found_in(ios: &[u32], strings: &[u8], n: usize, name: &[u8]) -> Result<(usize, u32), Refusal>
     requires { (length ios.now ≡ 192) × IosNamed strings.now n ios.now }
     ensures { result ≡ io_from (ios_in (strings_alone strings.now) n ios.now) 0 name.now }
 {
@@ -117,17 +104,20 @@ fn found_in(ios: &[u32], strings: &[u8], n: usize, name: &[u8]) -> Found
     let row = find_among(strings, pads, name);
     if row < n {
         let pad = pads[row];
-        return Found::Row(row, pad.width);
+        return Ok((row, pad.width));
     }
-    Found::Refused(refused(18))
+    Err(refused(18))
 }
 
 // The lookup of an I/O row by its name in lent tables, which are checked first: 1, 15, then 18 where no row has the name.
-pub fn lookup_pad(rows: &[u32], strings: &[u8], bits: &[u8], name: &[u8]) -> Found
+pub fn lookup_pad(
+    rows: &[u32],
+    strings: &[u8],
+    bits: &[u8],
+    name: &[u8],
+) -> Result<(usize, u32), Refusal>
     ensures { result ≡ lookup_of rows.now strings.now bits.now name.now }
 {
-    match check_tables(rows, strings, bits) {
-        Checked::Refused(g) => Found::Refused(g),
-        Checked::Good => { found_in(ios_of(rows), strings_of(strings), word_of(rows, 1), name) }
-    }
+    check_tables(rows, strings, bits)?;
+    found_in(ios_of(rows), strings_of(strings), word_of(rows, 1), name)
 }

@@ -17,7 +17,7 @@ use Rattle.kinds.specs.Kinds.{input_kind, output_kind}
 use Rattle.netlist.specs.Netlist.{Run, Cell, Netlist, cell_runs, runs_of}
 use Rattle.netlist.specs.Rules.{valid}
 use Rattle.netlist.specs.Tables.{Tables, cell_row, cell_rows, cell_start, layout}
-use Rattle.netlist.specs.View.{word, run_in, runs_in, pool_in, cell_in, cells_in, view}
+use Rattle.netlist.specs.View.{run_in, runs_in, pool_in, cell_in, cells_in, view}
 use Rattle.netlist.specs.Good.{laid, good}
 use Rattle.netlist.proofs.Laying.{Long, laid_is, valid_roomy}
 use Rattle.cells.specs.Operands.{run_reads, cell_reads}

@@ -17,6 +17,7 @@ use clearing::clear_words;
 use turns::place_rows;
 
 // How many rows are placed, and whether some row is left out: 20.
+// Both are told, since the number is promised where some row is left out too.
 #[derive(Clone, Copy)]
 pub struct Placed {
     pub count: usize,
@@ -41,10 +42,8 @@ fn mark_apart(cells: &[u32], n: usize, marks: &mut [u32])
     requires { (length cells.now ≡ 4608) × (n ≤ 512) × (marks.old ≡ zeros 1026) }
     ensures { Begun cells.now n marks.new }
 {
-    let mut i: usize = 0;
-    while i < n {
+    for i in 0..n {
         marks[i] = first_mark(cells[i * 9]);
-        i += 1;
     }
 }
 
@@ -53,9 +52,7 @@ fn left_out(marks: &[u32], n: usize) -> bool
     requires { n ≤ length marks.now }
     ensures { result ≡ some (λ i. not (placed_in marks.now i)) n }
 {
-    let mut k = n;
-    while 0 < k {
-        k -= 1;
+    for k in (0..n).rev() {
         if marks[k] != 1 {
             return true;
         }

@@ -28,14 +28,13 @@ pub(crate) fn open_read(cells: &[u32], runs: &[u32], marks: &[u32], row: usize, 
     let a = cells[at + 6] as usize;
     let b = cells[at + 7] as usize;
     let c = cells[at + 8] as usize;
-    let mut k = cells[at + 5] as usize;
-    let end = k + (a + b + c);
-    while k < end {
+    let from = cells[at + 5] as usize;
+    let end = from + (a + b + c);
+    for k in from..end {
         let x = open_run(runs, marks, k, n);
         if x < n {
             return x;
         }
-        k += 1;
     }
     n
 }

@@ -132,6 +132,7 @@ pub(crate) fn place_rows(
 {
     let mut low: usize = 0;
     let mut count: usize = 0;
+    // The look may go back, so this is no walk over a range.
     while low < n {
         let at = turn(cells, runs, n, rows, marks, low, count);
         low = at.low;

@@ -12,12 +12,10 @@ ghost use Rattle.pools.specs.Lying.{lies};
 pub fn blank_words(table: &[u32], from: usize) -> bool
     ensures { result ≡ blank (drop from table.now) }
 {
-    let mut i = from;
-    while i < table.len() {
+    for i in from..table.len() {
         if table[i] != 0 {
             return false;
         }
-        i += 1;
     }
     true
 }
@@ -25,12 +23,10 @@ pub fn blank_words(table: &[u32], from: usize) -> bool
 pub fn blank_bytes(pool: &[u8], from: usize) -> bool
     ensures { result ≡ blank (drop from pool.now) }
 {
-    let mut i = from;
-    while i < pool.len() {
+    for i in from..pool.len() {
         if pool[i] != 0 {
             return false;
         }
-        i += 1;
     }
     true
 }
@@ -39,12 +35,10 @@ pub fn blank_bytes(pool: &[u8], from: usize) -> bool
 pub fn all_trits(bits: &[u8]) -> bool
     ensures { result ≡ every is_trit bits.now }
 {
-    let mut i = 0;
-    while i < bits.len() {
+    for i in 0..bits.len() {
         if 2 < bits[i] {
             return false;
         }
-        i += 1;
     }
     true
 }

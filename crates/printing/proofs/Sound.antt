@@ -1,7 +1,7 @@
 -- Good tables have what printing asks.
-use Prim.Native.Nat.{ℕ, ◌+◌, ◌≤◌}
+use Prim.Native.Nat.{ℕ, ◌≤◌}
 use mathlib.Core.Path.{◌≡◌, refl, sym, ap, ◌∙◌}
-use mathlib.Core.Bool.{Bool, true, false}
+use mathlib.Core.Bool.{Bool, true}
 use mathlib.Core.List.{List, [], ◌∷◌, ◌++◌}
 use native.Mathlib.Omega.{arith}
 use lib.Dec.{leb}
@@ -9,14 +9,14 @@ use lib.ListN.{length}
 use borrow.Author.Tests.{le-leb}
 use Rattle.ground.specs.Lists.{every, total}
 use Rattle.ground.proofs.Bools.{bool_cases, never_both, and_true, fact, every_first, every_more}
-use Rattle.netlist.specs.Netlist.{Run, const, piece, Meta, Cell, Netlist, cell_runs, runs_of, bits_in, run_bits_of, attr_bits_of}
+use Rattle.netlist.specs.Netlist.{Run, const, piece, Meta, Cell, cell_runs, runs_of, bits_in, run_bits_of, attr_bits_of}
 use Rattle.netlist.specs.Rules.{is_trit, run_sound, operand_sound, meta_sound, metas_sound, cell_sound, widths_of, valid}
 use Rattle.netlist.specs.Runs.{longest}
 use Rattle.netlist.specs.Tables.{Tables}
 use Rattle.netlist.specs.View.{pool_in, view}
 use Rattle.netlist.specs.Good.{laid, good}
 use Rattle.netlist.proofs.Laying.{Long, valid_roomy, valid_metas, valid_cells}
-use Rattle.numbering.specs.Numbers.{row_widths, narrow}
+use Rattle.numbering.specs.Numbers.{narrow}
 use Rattle.numbering.proofs.Laws.{widths_of_lem}
 use Rattle.printing.specs.Whole.{Sound}
 use Rattle.printing.proofs.Trits.{every_joins, joined_every, fits_every}

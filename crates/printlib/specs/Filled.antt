@@ -1,23 +1,22 @@
 -- All that a caller in C sees after a printing or a full name.
-use Rattle.std.specs.Prelude.{ℕ, List}
+use Rattle.ground.specs.declared.Refusal.{Refusal}
+use Rattle.std.specs.Prelude.{ℕ, List, Result, Ok, Err}
 use Rattle.printing.specs.Outcome as printing
-use Rattle.printing.specs.declared.Printed.{Printed}
-use Rattle.printing.specs.declared.Printed.TheVariants as printed
 use Rattle.naming.specs.Names as naming
-use Rattle.naming.specs.declared.Named.{Named}
-use Rattle.naming.specs.declared.Named.TheVariants as named
 use Rattle.printlib.specs.declared.Wrote.{Wrote}
 
 abbrev pub wrote_of : ℕ → ℕ → ℕ → Wrote
 wrote_of length number place = record { length = length; number = number; place = place }
 
-abbrev pub told_print : Printed → Wrote
-told_print (printed.Length n) = wrote_of n 0 0
-told_print (printed.Refused g) = wrote_of 0 g.number g.place.at
+abbrev pub told : Result ℕ Refusal → Wrote
+told (Ok n) = wrote_of n 0 0
+told (Err g) = wrote_of 0 g.number g.place.at
 
-abbrev pub told_name : Named → Wrote
-told_name (named.Length n) = wrote_of n 0 0
-told_name (named.Refused g) = wrote_of 0 g.number g.place.at
+abbrev pub told_print : Result ℕ Refusal → Wrote
+told_print = told
+
+abbrev pub told_name : Result ℕ Refusal → Wrote
+told_name = told
 
 -- an answer and every byte of the room
 pub record Filled : Type 0 where

@@ -1,6 +1,7 @@
 -- WHAT IS ASKED OF GOOD TABLES: full names and the I/O lookup. Each number is told exactly on its ground, where none before it
 -- holds; and what they answer else.
 -- Assumes nothing.
+use Rattle.std.specs.Prelude.{Result, Ok, Err}
 use mathlib.Core.Path.{◌≡◌, refl, ap, ◌∙◌, sym, subst}
 use mathlib.Core.Bool.{Bool, true, false, not}
 use mathlib.Core.List.{List, [], ◌∷◌}
@@ -18,13 +19,8 @@ use Rattle.ground.proofs.Bools.{bool_cases, never_both}
 use Rattle.netlist.specs.Netlist.{Io, Netlist}
 use Rattle.netlist.specs.Tables.{tables_in}
 use Rattle.netlist.specs.Good.{short, good, check_of, netlist_in, io_from, lookup, lookup_of}
-use Rattle.netlist.specs.declared.Checked.TheVariants as checked
-use Rattle.netlist.specs.declared.Found.{Found}
-use Rattle.netlist.specs.declared.Found.TheVariants as found
 use Rattle.naming.specs.Names.{is_ident, full_name}
 use Rattle.naming.specs.Names as naming
-use Rattle.naming.specs.declared.Named.{Named}
-use Rattle.naming.specs.declared.Named.TheVariants as named
 
 -- FULL NAMES: 1, 15, 16, 24
 pub data Unnamed (rows strings bits : List ℕ) (row : ℕ) (room : List ℕ) : Refusal → Type 0 where
@@ -35,15 +31,15 @@ pub data Unnamed (rows strings bits : List ℕ) (row : ℕ) (room : List ℕ) : 
   no_room : short rows strings bits ≡ false → good (tables_in rows strings bits) ≡ true → is_ident (netlist_in rows strings bits) row ≡ true
       → ltb (length room) (length (full_name (netlist_in rows strings bits) row)) ≡ true → Unnamed rows strings bits row room (refusal 24 (at 0))
 
-abbrev told_named : Named → Refusal
-told_named (named.Refused g) = g
-told_named (named.Length n) = refusal 0 (at 0)
+abbrev told_named : Result ℕ Refusal → Refusal
+told_named (Err g) = g
+told_named (Ok n) = refusal 0 (at 0)
 
 module _ (rows strings bits : List ℕ) (row : ℕ) (room : List ℕ) where
-  named_by : (g h : Refusal) → named.Refused h ≡ named.Refused g → Unnamed rows strings bits row room h → Unnamed rows strings bits row room g
+  named_by : (g h : Refusal) → ◌≡◌ {A = Result ℕ Refusal} (Err h) (Err g) → Unnamed rows strings bits row room h → Unnamed rows strings bits row room g
   named_by g h e u = subst (λ (q : Refusal). Unnamed rows strings bits row room q) (ap told_named e) u
 
-  pub naming_refused : (g : Refusal) → (naming.name_of rows strings bits row room).answer ≡ named.Refused g
+  pub naming_refused : (g : Refusal) → (naming.name_of rows strings bits row room).answer ≡ Err g
       → Unnamed rows strings bits row room g × ((naming.name_of rows strings bits row room).room ≡ room)
   unfolding naming.name_of naming.written check_of
   naming_refused g e =
@@ -57,7 +53,7 @@ module _ (rows strings bits : List ℕ) (row : ℕ) (room : List ℕ) where
       (λ c. (named_by g (refusal 16 (at 0)) (rw (a, b, c) at e) (no_ident a b c), rw (a, b, c))))
       (λ b. (named_by g (refusal 15 (at 0)) (rw (a, b) at e) (not_good a b), rw (a, b))))
 
-  pub naming_told : {g : Refusal} → Unnamed rows strings bits row room g → (naming.name_of rows strings bits row room).answer ≡ named.Refused g
+  pub naming_told : {g : Refusal} → Unnamed rows strings bits row room g → (naming.name_of rows strings bits row room).answer ≡ Err g
   unfolding naming.name_of naming.written check_of
   naming_told (lent_short_lem a) = rw a
   naming_told (not_good a b) = rw (a, b)
@@ -65,10 +61,10 @@ module _ (rows strings bits : List ℕ) (row : ℕ) (room : List ℕ) where
   naming_told (no_room a b c d) = rw (a, b, c, d)
 
   -- the full name of every ident of good tables is written, wherever the room takes it
-  pub name_written : check_of rows strings bits ≡ checked.Good → is_ident (netlist_in rows strings bits) row ≡ true
+  pub name_written : check_of rows strings bits ≡ Ok tt → is_ident (netlist_in rows strings bits) row ≡ true
       → length (full_name (netlist_in rows strings bits) row) ≤ length room
       → naming.name_of rows strings bits row room
-      ≡ naming.made (named.Length (length (full_name (netlist_in rows strings bits) row)))
+      ≡ naming.made (Ok (length (full_name (netlist_in rows strings bits) row)))
       (over (length (full_name (netlist_in rows strings bits) row)) (full_name (netlist_in rows strings bits) row) room)
   unfolding naming.name_of naming.written
   name_written h i l = rw (h, i, le-ltb (length room) (length (full_name (netlist_in rows strings bits) row)) l)
@@ -94,22 +90,22 @@ pub data Unfound (rows strings bits name : List ℕ) : Refusal → Type 0 where
   nameless : short rows strings bits ≡ false → good (tables_in rows strings bits) ≡ true → Nameless (netlist_in rows strings bits).ios name
       → Unfound rows strings bits name (refusal 18 (at 0))
 
-abbrev told_found : Found → Refusal
-told_found (found.Refused g) = g
-told_found (found.Row r w) = refusal 0 (at 0)
+abbrev told_found : Result (ℕ × ℕ) Refusal → Refusal
+told_found (Err g) = g
+told_found (Ok (r, w)) = refusal 0 (at 0)
 
-abbrev row_found : Found → ℕ
-row_found (found.Refused g) = 0
-row_found (found.Row r w) = r
+abbrev row_found : Result (ℕ × ℕ) Refusal → ℕ
+row_found (Err g) = 0
+row_found (Ok (r, w)) = r
 
-abbrev width_found : Found → ℕ
-width_found (found.Refused g) = 0
-width_found (found.Row r w) = w
+abbrev width_found : Result (ℕ × ℕ) Refusal → ℕ
+width_found (Err g) = 0
+width_found (Ok (r, w)) = w
 
 -- the search from a row on: it answers a row of what is left, or 18
-pub data Searched (ios : List Io) (from : ℕ) (name : List ℕ) : Found → Type 0 where
-  hit : (k w : ℕ) → First ios name k w → Searched ios from name (found.Row (from + k) w)
-  miss : Nameless ios name → Searched ios from name (found.Refused (refusal 18 (at 0)))
+pub data Searched (ios : List Io) (from : ℕ) (name : List ℕ) : Result (ℕ × ℕ) Refusal → Type 0 where
+  hit : (k w : ℕ) → First ios name k w → Searched ios from name (Ok (from + k, w))
+  miss : Nameless ios name → Searched ios from name (Err (refusal 18 (at 0)))
 
 module _ (i : Io) (is : List Io) (name : List ℕ) (s : same i.name name ≡ false) where
   nameless_more : Nameless is name → Nameless (i ∷ is) name
@@ -120,18 +116,18 @@ module _ (i : Io) (is : List Io) (name : List ℕ) (s : same i.name name ≡ fal
   before_more k n zero h = s
   before_more k n (suc b) h = n b (omega arith)
 
-  searched_more : (from : ℕ) {f : Found} → Searched is (from + 1) name f → Searched (i ∷ is) from name f
+  searched_more : (from : ℕ) {f : Result (ℕ × ℕ) Refusal} → Searched is (from + 1) name f → Searched (i ∷ is) from name f
   searched_more from (hit k w o) =
       let e : from + suc k ≡ from + 1 + k = omega arith in
       let h : First (i ∷ is) name (suc k) w = record { there = let l = o.there in omega arith; named = o.named; wide = o.wide; first = before_more k o.first } in
-      subst (λ (q : ℕ). Searched (i ∷ is) from name (found.Row q w)) e (hit (suc k) w h)
+      subst (λ (q : ℕ). Searched (i ∷ is) from name (Ok (q, w))) e (hit (suc k) w h)
   searched_more from (miss n) = miss (nameless_more n)
 
-hit_here : (i : Io) (is : List Io) (from : ℕ) (name : List ℕ) → same i.name name ≡ true → Searched (i ∷ is) from name (found.Row from i.width)
+hit_here : (i : Io) (is : List Io) (from : ℕ) (name : List ℕ) → same i.name name ≡ true → Searched (i ∷ is) from name (Ok (from, i.width))
 hit_here i is from name s =
     let e : from + 0 ≡ from = omega arith in
     let h : First (i ∷ is) name 0 i.width = record { there = omega arith; named = s; wide = refl; first = λ b l. absurd (omega arith) } in
-    subst (λ (q : ℕ). Searched (i ∷ is) from name (found.Row q i.width)) e (hit 0 i.width h)
+    subst (λ (q : ℕ). Searched (i ∷ is) from name (Ok (q, i.width))) e (hit 0 i.width h)
 
 searched : (ios : List Io) (from : ℕ) (name : List ℕ) → Searched ios from name (io_from ios from name)
 unfolding io_from
@@ -142,15 +138,15 @@ searched (i ∷ is) from name =
     (λ s. rw (s, io_from) (searched_more i is name s from (searched is (from + 1) name)))
 
 module _ (rows strings bits name : List ℕ) where
-  found_by : (g h : Refusal) → found.Refused h ≡ found.Refused g → Unfound rows strings bits name h → Unfound rows strings bits name g
+  found_by : (g h : Refusal) → ◌≡◌ {A = Result (ℕ × ℕ) Refusal} (Err h) (Err g) → Unfound rows strings bits name h → Unfound rows strings bits name g
   found_by g h e u = subst (λ (q : Refusal). Unfound rows strings bits name q) (ap told_found e) u
 
-  of_search : short rows strings bits ≡ false → good (tables_in rows strings bits) ≡ true → (f : Found) → Searched (netlist_in rows strings bits).ios 0 name f
-      → (g : Refusal) → f ≡ found.Refused g → Unfound rows strings bits name g
+  of_search : short rows strings bits ≡ false → good (tables_in rows strings bits) ≡ true → (f : Result (ℕ × ℕ) Refusal) → Searched (netlist_in rows strings bits).ios 0 name f
+      → (g : Refusal) → f ≡ Err g → Unfound rows strings bits name g
   of_search a b f (hit k w o) g e = let z : ◌≡◌ {A = ℕ} 0 1 = cc (e) in absurd (omega arith)
   of_search a b f (miss n) g e = found_by g (refusal 18 (at 0)) e (nameless a b n)
 
-  pub lookup_refused : (g : Refusal) → lookup_of rows strings bits name ≡ found.Refused g → Unfound rows strings bits name g
+  pub lookup_refused : (g : Refusal) → lookup_of rows strings bits name ≡ Err g → Unfound rows strings bits name g
   unfolding lookup_of check_of
   lookup_refused g e =
       bool_cases (short rows strings bits)
@@ -160,18 +156,18 @@ module _ (rows strings bits name : List ℕ) where
       (λ b. found_by g (refusal 15 (at 0)) (rw (a, b) at e) (not_good a b)))
 
   -- where no row has the name, the search finds none
-  none_found : (f : Found) → Searched (netlist_in rows strings bits).ios 0 name f → Nameless (netlist_in rows strings bits).ios name → f ≡ found.Refused (refusal 18 (at 0))
+  none_found : (f : Result (ℕ × ℕ) Refusal) → Searched (netlist_in rows strings bits).ios 0 name f → Nameless (netlist_in rows strings bits).ios name → f ≡ Err (refusal 18 (at 0))
   none_found f (hit k w o) n = never_both o.named (n k o.there)
   none_found f (miss m) n = refl
 
-  pub lookup_told : {g : Refusal} → Unfound rows strings bits name g → lookup_of rows strings bits name ≡ found.Refused g
+  pub lookup_told : {g : Refusal} → Unfound rows strings bits name g → lookup_of rows strings bits name ≡ Err g
   unfolding lookup_of check_of
   lookup_told (lent_short_lem a) = rw a
   lookup_told (not_good a b) = rw (a, b)
   lookup_told (nameless a b n) = rw (a, b) (none_found (lookup (netlist_in rows strings bits) name) (searched (netlist_in rows strings bits).ios 0 name) n)
 
   -- a row that is told is the first that has the name
-  of_hit : (f : Found) → Searched (netlist_in rows strings bits).ios 0 name f → (row width : ℕ) → f ≡ found.Row row width
+  of_hit : (f : Result (ℕ × ℕ) Refusal) → Searched (netlist_in rows strings bits).ios 0 name f → (row width : ℕ) → f ≡ Ok (row, width)
       → First (netlist_in rows strings bits).ios name row width
   of_hit f (hit k w o) row width e =
       let n : 0 + k ≡ row = ap row_found e in
@@ -180,7 +176,7 @@ module _ (rows strings bits name : List ℕ) where
       subst (λ (x : ℕ). First (netlist_in rows strings bits).ios name row x) q (subst (λ (x : ℕ). First (netlist_in rows strings bits).ios name x w) p o)
   of_hit f (miss n) row width e = let z : ◌≡◌ {A = ℕ} 0 1 = cc (e) in absurd (omega arith)
 
-  pub lookup_first : (row width : ℕ) → lookup_of rows strings bits name ≡ found.Row row width → First (netlist_in rows strings bits).ios name row width
+  pub lookup_first : (row width : ℕ) → lookup_of rows strings bits name ≡ Ok (row, width) → First (netlist_in rows strings bits).ios name row width
   unfolding lookup_of check_of
   lookup_first row width e =
       bool_cases (short rows strings bits)

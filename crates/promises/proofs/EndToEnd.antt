@@ -1,6 +1,7 @@
 -- END TO END, from any bytes to what the bench sees: a refusal on its own ground, with its place and all lent memory told; or tables that
 -- print one text and give one list, whose run under every setting, and whose evaluation, are what the text says.
 -- Assumes nothing.
+use Rattle.std.specs.Prelude.{Result, Ok, Err}
 use mathlib.Core.Path.{◌≡◌, refl, ap, ◌∙◌, sym, subst}
 use mathlib.Core.Bool.{Bool, true, false, ◌||◌}
 use mathlib.Core.List.{List}
@@ -14,28 +15,21 @@ use Rattle.ground.specs.declared.Refusal.{Refusal}
 use Rattle.netlist.specs.Netlist.{Netlist}
 use Rattle.netlist.specs.Rules.{valid}
 use Rattle.netlist.specs.Good.{short, check_of, netlist_in}
-use Rattle.netlist.specs.declared.Checked.TheVariants as checked
 use Rattle.declaring.specs.Reading.{Reading, says, refused, reading}
 use Rattle.reading.specs.Outcome as reading
-use Rattle.reading.specs.declared.Read.{Read}
-use Rattle.reading.specs.declared.Read.TheVariants as read
 use Rattle.lines.specs.Lines.{canonical}
 use Rattle.printing.specs.Outcome as printing
-use Rattle.printing.specs.declared.Printed.TheVariants as printed
 use Rattle.accepting.proofs.Good.{Accepted, accepted_good}
 use Rattle.language.specs.Language.{Says}
 use Rattle.language.proofs.Exactly.{read_says, says_read}
 use Rattle.loadlist.specs.Records.{list_bytes}
 use Rattle.loadlist.specs.Run.{slots, assigns, run_of}
 use Rattle.loadlist.specs.Run as run
-use Rattle.loadlist.specs.declared.Ran.TheVariants as ran
 use Rattle.placing.specs.Placing.{input_bits, outputs_from, ringed}
 use Rattle.evaluating.specs.Settled.{Setting, Settled}
 use Rattle.evaluating.specs.Outcome as evaluating
-use Rattle.evaluating.specs.declared.Evaluated.TheVariants as evaluated
 use Rattle.translating.specs.Outcome as translating
 use Rattle.translating.specs.Translation.{translation, record_sum}
-use Rattle.translating.specs.declared.Translated.TheVariants as translated
 use Rattle.promises.proofs.Unread.{lent_short, Unread, judged, read_refused}
 use Rattle.promises.proofs.GoodTables.{shown_valid, text_printed, in_ring, too_many, list_made, list_runs, evaluation_made}
 
@@ -46,12 +40,12 @@ pub record Card (text : List ℕ) (o : reading.Outcome) : Type 0 where
   pub netlist : Netlist
   pub said : Says text netlist
   pub sound : valid netlist ≡ true
-  pub good : check_of o.rows o.strings o.bits ≡ checked.Good
+  pub good : check_of o.rows o.strings o.bits ≡ Ok tt
   pub shown : netlist_in o.rows o.strings o.bits ≡ netlist
   pub printed : (room : List ℕ) → length (canonical netlist) ≤ length room
-      → printing.print_of o.rows o.strings o.bits room ≡ printing.made (printed.Length (length (canonical netlist))) (over (length (canonical netlist)) (canonical netlist) room)
+      → printing.print_of o.rows o.strings o.bits room ≡ printing.made (Ok (length (canonical netlist))) (over (length (canonical netlist)) (canonical netlist) room)
   pub listed : ringed netlist ≡ false → record_sum netlist ≤ 8192 → (room work : List ℕ) → 8 * record_sum netlist ≤ length room → 8192 ≤ length work
-      → translating.translate_of o.rows o.strings o.bits room work ≡ translating.made (translated.Records (record_sum netlist)) (over (8 * record_sum netlist) (list_bytes (translation netlist)) room) (translating.cleared work)
+      → translating.translate_of o.rows o.strings o.bits room work ≡ translating.made (Ok (record_sum netlist)) (over (8 * record_sum netlist) (list_bytes (translation netlist)) room) (translating.cleared work)
   pub ring : ringed netlist ≡ true → (room work : List ℕ) → 8192 ≤ length work
       → translating.translate_of o.rows o.strings o.bits room work ≡ translating.refused 20 room work
   pub many : ringed netlist ≡ false → 8192 < record_sum netlist → (room work : List ℕ) → 8192 ≤ length work
@@ -59,12 +53,12 @@ pub record Card (text : List ℕ) (o : reading.Outcome) : Type 0 where
   pub runs : ringed netlist ≡ false → record_sum netlist ≤ 8192 → (ins : List ℕ) → assigns (input_bits netlist) ins ≡ true → (u : Setting) → Settled netlist ins u
       → (outs work : List ℕ) → length (outputs_from u netlist) ≤ length outs → 8192 ≤ length work
       → run_of (list_bytes (translation netlist)) ins outs work
-      ≡ run.made (ran.Outputs (length (outputs_from u netlist))) (over (length (outputs_from u netlist)) (outputs_from u netlist) outs)
+      ≡ run.made (Ok (length (outputs_from u netlist))) (over (length (outputs_from u netlist)) (outputs_from u netlist) outs)
       (over 8192 (pad 8192 (slots (list_bytes (translation netlist)) ins)) work)
   pub evaluated : ringed netlist ≡ false → (ins : List ℕ) → assigns (input_bits netlist) ins ≡ true → (u : Setting) → Settled netlist ins u
       → (outs work : List ℕ) → length (outputs_from u netlist) ≤ length outs → 8192 ≤ length work
       → evaluating.evaluate_of o.rows o.strings o.bits ins outs work
-      ≡ evaluating.made (evaluated.Outputs (length (outputs_from u netlist))) (over (length (outputs_from u netlist)) (outputs_from u netlist) outs) (evaluating.cleared work)
+      ≡ evaluating.made (Ok (length (outputs_from u netlist))) (over (length (outputs_from u netlist)) (outputs_from u netlist) outs) (evaluating.cleared work)
 
 module _ (text : List ℕ) (o : reading.Outcome) (a : Accepted text o) where
   pub card : Card text o
@@ -87,7 +81,7 @@ module _ (text : List ℕ) (o : reading.Outcome) (a : Accepted text o) where
 pub record Turned (text rows strings bits work : List ℕ) (g : Refusal) : Type 0 where
   pub ground : Unread text rows strings bits work g
   pub unchanged : lent_short rows strings bits work ≡ true
-      → reading.read_of text rows strings bits work ≡ reading.made (read.Refused (refusal 1 (at 0))) rows strings bits work
+      → reading.read_of text rows strings bits work ≡ reading.made (Err (refusal 1 (at 0))) rows strings bits work
   pub unsaid : lent_short rows strings bits work ≡ false → (N : Netlist) → Says text N → ⊥
   pub cleared : lent_short rows strings bits work ≡ false
       → reading.read_of text rows strings bits work ≡ reading.left rows strings bits work (refused g)
@@ -96,7 +90,7 @@ pub record Turned (text rows strings bits work : List ℕ) (g : Refusal) : Type 
 never_said : {P : Type 0} (g : Refusal) (N : Netlist) → refused g ≡ says N → P
 never_said g N e = let z : ◌≡◌ {A = ℕ} 0 1 = cc in absurd (omega arith)
 
-module _ (text rows strings bits work : List ℕ) (g : Refusal) (e : (reading.read_of text rows strings bits work).answer ≡ read.Refused g) where
+module _ (text rows strings bits work : List ℕ) (g : Refusal) (e : (reading.read_of text rows strings bits work).answer ≡ Err g) where
   turned : Turned text rows strings bits work g
   unfolding reading.read_of
   turned = record {
@@ -107,13 +101,13 @@ module _ (text rows strings bits work : List ℕ) (g : Refusal) (e : (reading.re
   }
 
 -- THE ANSWER: a refusal, which has its number and its place, or a card
-abbrev pub Answered : List ℕ → List ℕ → List ℕ → List ℕ → List ℕ → Read → Type 0
-Answered text rows strings bits work (read.Refused g) = Turned text rows strings bits work g
-Answered text rows strings bits work read.Accepted = Card text (reading.read_of text rows strings bits work)
+abbrev pub Answered : List ℕ → List ℕ → List ℕ → List ℕ → List ℕ → Result (Unit {0}) Refusal → Type 0
+Answered text rows strings bits work (Err g) = Turned text rows strings bits work g
+Answered text rows strings bits work (Ok tt) = Card text (reading.read_of text rows strings bits work)
 
-answered_by : (text rows strings bits work : List ℕ) (r : Read) → (reading.read_of text rows strings bits work).answer ≡ r → Answered text rows strings bits work r
-answered_by text rows strings bits work (read.Refused g) e = turned text rows strings bits work g e
-answered_by text rows strings bits work read.Accepted e = card text (reading.read_of text rows strings bits work) (accepted_good text rows strings bits work e)
+answered_by : (text rows strings bits work : List ℕ) (r : Result (Unit {0}) Refusal) → (reading.read_of text rows strings bits work).answer ≡ r → Answered text rows strings bits work r
+answered_by text rows strings bits work (Err g) e = turned text rows strings bits work g e
+answered_by text rows strings bits work (Ok tt) e = card text (reading.read_of text rows strings bits work) (accepted_good text rows strings bits work e)
 
 -- for every byte sequence, and every content of the lent tables and the work space
 pub end_to_end : (text rows strings bits work : List ℕ) → Answered text rows strings bits work (reading.read_of text rows strings bits work).answer

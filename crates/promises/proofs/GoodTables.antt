@@ -1,5 +1,6 @@
 -- WHAT GOOD TABLES GIVE, read from a text or not: one printed text, one list, the run of that list and the evaluation.
 -- Assumes nothing.
+use Rattle.std.specs.Prelude.{Ok}
 use mathlib.Core.Path.{◌≡◌, refl, ap, ◌∙◌, sym}
 use mathlib.Core.Bool.{true, false}
 use mathlib.Core.List.{List}
@@ -14,25 +15,20 @@ use Rattle.netlist.specs.Rules.{valid}
 use Rattle.netlist.specs.Tables.{tables_in}
 use Rattle.netlist.specs.View.{view}
 use Rattle.netlist.specs.Good.{short, laid, good, check_of, netlist_in}
-use Rattle.netlist.specs.declared.Checked.TheVariants as checked
 use Rattle.lines.specs.Lines.{canonical}
 use Rattle.printing.specs.Outcome as printing
-use Rattle.printing.specs.declared.Printed.TheVariants as printed
 use Rattle.loadlist.specs.Records.{list_bytes, input_op}
 use Rattle.loadlist.specs.Check.{records, records_with}
 use Rattle.loadlist.specs.Run.{outputs, slots, assigns, run_of}
 use Rattle.loadlist.specs.Run as run
-use Rattle.loadlist.specs.declared.Ran.TheVariants as ran
 use Rattle.running.proofs.Ways.{succeeds}
 use Rattle.placing.specs.Placing.{input_bits, outputs_from, ringed}
 use Rattle.evaluating.specs.Settled.{Setting, Settled}
 use Rattle.evaluating.specs.Evaluation.{evaluation}
 use Rattle.evaluating.specs.Outcome as evaluating
-use Rattle.evaluating.specs.declared.Evaluated.TheVariants as evaluated
 use Rattle.evaluating.proofs.Settles.{evaluation_settled}
 use Rattle.translating.specs.Outcome as translating
 use Rattle.translating.specs.Translation.{translation, record_sum}
-use Rattle.translating.specs.declared.Translated.TheVariants as translated
 use Rattle.translating.proofs.Passing.{translation_passes, list_gives}
 use Rattle.promises.proofs.Taking.{translation_inputs}
 
@@ -41,17 +37,17 @@ module _ (N : Netlist) (v : valid N ≡ true) (free : ringed N ≡ false) (few :
   pub list_runs : (ins : List ℕ) → assigns (input_bits N) ins ≡ true → (u : Setting) → Settled N ins u → (outs work : List ℕ)
       → length (outputs_from u N) ≤ length outs → 8192 ≤ length work
       → run_of (list_bytes (translation N)) ins outs work
-      ≡ run.made (ran.Outputs (length (outputs_from u N))) (over (length (outputs_from u N)) (outputs_from u N) outs)
+      ≡ run.made (Ok (length (outputs_from u N))) (over (length (outputs_from u N)) (outputs_from u N) outs)
       (over 8192 (pad 8192 (slots (list_bytes (translation N)) ins)) work)
   list_runs ins given u s outs work room long =
       let e : outputs (list_bytes (translation N)) ins ≡ outputs_from u N = list_gives N v free ins given ∙ evaluation_settled N v ins free u s in
       let fit : assigns (records_with input_op (records (list_bytes (translation N)))) ins ≡ true = ap (λ (n : ℕ). assigns n ins) (translation_inputs N v free ins given) ∙ given in
       let enough : length (outputs (list_bytes (translation N)) ins) ≤ length outs = rw e room in
       succeeds (list_bytes (translation N)) ins outs work (translation_passes N v free few) fit enough long
-      ∙ ap (λ (x : List ℕ). run.made (ran.Outputs (length x)) (over (length x) x outs) (over 8192 (pad 8192 (slots (list_bytes (translation N)) ins)) work)) e
+      ∙ ap (λ (x : List ℕ). run.made (Ok (length x)) (over (length x) x outs) (over 8192 (pad 8192 (slots (list_bytes (translation N)) ins)) work)) e
 
 -- GOOD TABLES are not short, and show a valid netlist
-module _ (rows strings bits : List ℕ) (h : check_of rows strings bits ≡ checked.Good) where
+module _ (rows strings bits : List ℕ) (h : check_of rows strings bits ≡ Ok tt) where
   pub not_short : short rows strings bits ≡ false
   unfolding check_of
   not_short = bool_cases (short rows strings bits)
@@ -72,7 +68,7 @@ module _ (rows strings bits : List ℕ) (h : check_of rows strings bits ≡ chec
   shown_valid = (and_true (laid N (tables_in rows strings bits)) (valid N) are_good).1
 
   pub text_printed : (room : List ℕ) → length (canonical N) ≤ length room
-      → printing.print_of rows strings bits room ≡ printing.made (printed.Length (length (canonical N))) (over (length (canonical N)) (canonical N) room)
+      → printing.print_of rows strings bits room ≡ printing.made (Ok (length (canonical N))) (over (length (canonical N)) (canonical N) room)
   unfolding printing.print_of printing.written
   text_printed room l = rw (h, le-ltb (length room) (length (canonical N)) l)
 
@@ -90,14 +86,14 @@ module _ (rows strings bits : List ℕ) (h : check_of rows strings bits ≡ chec
 
     pub list_made : ringed N ≡ false → record_sum N ≤ 8192 → 8 * record_sum N ≤ length room
         → translating.translate_of rows strings bits room work
-        ≡ translating.made (translated.Records (record_sum N)) (over (8 * record_sum N) (list_bytes (translation N)) room) (translating.cleared work)
+        ≡ translating.made (Ok (record_sum N)) (over (8 * record_sum N) (list_bytes (translation N)) room) (translating.cleared work)
     list_made f s l = of_netlist ∙ rw (f, le-ltb 8192 (record_sum N) s, le-ltb (length room) (8 * record_sum N) l)
 
   -- THE EVALUATION gives the settled setting's output bits
   pub evaluation_made : ringed N ≡ false → (ins : List ℕ) → assigns (input_bits N) ins ≡ true → (u : Setting) → Settled N ins u → (outs work : List ℕ)
       → length (outputs_from u N) ≤ length outs → 8192 ≤ length work
       → evaluating.evaluate_of rows strings bits ins outs work
-      ≡ evaluating.made (evaluated.Outputs (length (outputs_from u N))) (over (length (outputs_from u N)) (outputs_from u N) outs) (evaluating.cleared work)
+      ≡ evaluating.made (Ok (length (outputs_from u N))) (over (length (outputs_from u N)) (outputs_from u N) outs) (evaluating.cleared work)
   unfolding evaluating.evaluate_of
   evaluation_made f ins given u s outs work room long =
       let e : evaluation N ins ≡ outputs_from u N = evaluation_settled N shown_valid ins f u s in

@@ -3,6 +3,7 @@
 -- here says that none before it holds; so each number is told where its ground is, and nowhere else. "Each other refusal changes no lent
 -- byte outside work space .. Work space is zero after every call but one refused 1 (unchanged)".
 -- Assumes nothing.
+use Rattle.std.specs.Prelude.{Result, Ok, Err}
 use mathlib.Core.Path.{◌≡◌, refl, ap, ◌∙◌, sym, subst}
 use mathlib.Core.Bool.{Bool, true, false, not, ◌||◌}
 use mathlib.Core.List.{List}
@@ -19,29 +20,17 @@ use Rattle.ground.proofs.Bools.{bool_cases}
 use Rattle.netlist.specs.Netlist.{Netlist}
 use Rattle.netlist.specs.Tables.{tables_in}
 use Rattle.netlist.specs.Good.{short, good, check_of, netlist_in}
-use Rattle.netlist.specs.declared.Checked.{Checked}
-use Rattle.netlist.specs.declared.Checked.TheVariants as checked
 use Rattle.lines.specs.Lines.{canonical}
 use Rattle.printing.specs.Outcome as printing
-use Rattle.printing.specs.declared.Printed.{Printed}
-use Rattle.printing.specs.declared.Printed.TheVariants as printed
 use Rattle.loadlist.specs.Records.{input_op}
 use Rattle.loadlist.specs.Check.{records, records_with, bad_record, listed_of}
-use Rattle.loadlist.specs.declared.Listed.{Listed}
-use Rattle.loadlist.specs.declared.Listed.TheVariants as listed
 use Rattle.loadlist.specs.Run.{outputs, assigns}
 use Rattle.loadlist.specs.Run as run
-use Rattle.loadlist.specs.declared.Ran.{Ran}
-use Rattle.loadlist.specs.declared.Ran.TheVariants as ran
 use Rattle.placing.specs.Placing.{input_bits, ringed}
 use Rattle.evaluating.specs.Evaluation.{evaluation}
 use Rattle.evaluating.specs.Outcome as evaluating
-use Rattle.evaluating.specs.declared.Evaluated.{Evaluated}
-use Rattle.evaluating.specs.declared.Evaluated.TheVariants as evaluated
 use Rattle.translating.specs.Outcome as translating
 use Rattle.translating.specs.Translation.{record_sum}
-use Rattle.translating.specs.declared.Translated.{Translated}
-use Rattle.translating.specs.declared.Translated.TheVariants as translated
 
 -- room as it was; the work space as it was where a lent slice is too short (1), else zero
 pub record Left (isShort : Bool) (room room' work work' : List ℕ) : Type 0 where
@@ -60,15 +49,15 @@ pub data Untranslated (rows strings bits room work : List ℕ) : Refusal → Typ
       → ltb 8192 (record_sum (netlist_in rows strings bits)) ≡ false → ltb (length room) (8 * record_sum (netlist_in rows strings bits)) ≡ true
       → Untranslated rows strings bits room work (refusal 24 (at 0))
 
-abbrev told_translated : Translated → Refusal
-told_translated (translated.Refused g) = g
-told_translated (translated.Records n) = refusal 0 (at 0)
+abbrev told_translated : Result ℕ Refusal → Refusal
+told_translated (Err g) = g
+told_translated (Ok n) = refusal 0 (at 0)
 
 module _ (rows strings bits room work : List ℕ) (g : Refusal) where
-  translated_by : (h : Refusal) → translated.Refused h ≡ translated.Refused g → Untranslated rows strings bits room work h → Untranslated rows strings bits room work g
+  translated_by : (h : Refusal) → ◌≡◌ {A = Result ℕ Refusal} (Err h) (Err g) → Untranslated rows strings bits room work h → Untranslated rows strings bits room work g
   translated_by h e u = subst (λ (q : Refusal). Untranslated rows strings bits room work q) (ap told_translated e) u
 
-  pub translation_refused : (translating.translate_of rows strings bits room work).answer ≡ translated.Refused g
+  pub translation_refused : (translating.translate_of rows strings bits room work).answer ≡ Err g
       → Untranslated rows strings bits room work g
       × Left (short rows strings bits || ltb (length work) 8192) room (translating.translate_of rows strings bits room work).room work (translating.translate_of rows strings bits room work).work
   unfolding translating.translate_of
@@ -86,7 +75,7 @@ module _ (rows strings bits room work : List ℕ) (g : Refusal) where
       (λ b. (translated_by (refusal 15 (at 0)) (rw (a, b) at e) (not_good a b), record { room_kept = rw (a, b); work_told = rw (a, b) })))
 
 module _ (rows strings bits room work : List ℕ) where
-  pub translation_told : {g : Refusal} → Untranslated rows strings bits room work g → (translating.translate_of rows strings bits room work).answer ≡ translated.Refused g
+  pub translation_told : {g : Refusal} → Untranslated rows strings bits room work g → (translating.translate_of rows strings bits room work).answer ≡ Err g
   unfolding translating.translate_of
   translation_told (lent_short_lem a) = rw a
   translation_told (not_good a b) = rw (a, b)
@@ -106,15 +95,15 @@ pub data Unevaluated (rows strings bits ins outs work : List ℕ) : Refusal → 
       → assigns (input_bits (netlist_in rows strings bits)) ins ≡ true → ltb (length outs) (length (evaluation (netlist_in rows strings bits) ins)) ≡ true
       → Unevaluated rows strings bits ins outs work (refusal 24 (at 0))
 
-abbrev told_evaluated : Evaluated → Refusal
-told_evaluated (evaluated.Refused g) = g
-told_evaluated (evaluated.Outputs n) = refusal 0 (at 0)
+abbrev told_evaluated : Result ℕ Refusal → Refusal
+told_evaluated (Err g) = g
+told_evaluated (Ok n) = refusal 0 (at 0)
 
 module _ (rows strings bits ins outs work : List ℕ) (g : Refusal) where
-  evaluated_by : (h : Refusal) → evaluated.Refused h ≡ evaluated.Refused g → Unevaluated rows strings bits ins outs work h → Unevaluated rows strings bits ins outs work g
+  evaluated_by : (h : Refusal) → ◌≡◌ {A = Result ℕ Refusal} (Err h) (Err g) → Unevaluated rows strings bits ins outs work h → Unevaluated rows strings bits ins outs work g
   evaluated_by h e u = subst (λ (q : Refusal). Unevaluated rows strings bits ins outs work q) (ap told_evaluated e) u
 
-  pub evaluation_refused : (evaluating.evaluate_of rows strings bits ins outs work).answer ≡ evaluated.Refused g
+  pub evaluation_refused : (evaluating.evaluate_of rows strings bits ins outs work).answer ≡ Err g
       → Unevaluated rows strings bits ins outs work g
       × Left (short rows strings bits || ltb (length work) 8192) outs (evaluating.evaluate_of rows strings bits ins outs work).outs work (evaluating.evaluate_of rows strings bits ins outs work).work
   unfolding evaluating.evaluate_of
@@ -132,7 +121,7 @@ module _ (rows strings bits ins outs work : List ℕ) (g : Refusal) where
       (λ b. (evaluated_by (refusal 15 (at 0)) (rw (a, b) at e) (not_good a b), record { room_kept = rw (a, b); work_told = rw (a, b) })))
 
 module _ (rows strings bits ins outs work : List ℕ) where
-  pub evaluation_told : {g : Refusal} → Unevaluated rows strings bits ins outs work g → (evaluating.evaluate_of rows strings bits ins outs work).answer ≡ evaluated.Refused g
+  pub evaluation_told : {g : Refusal} → Unevaluated rows strings bits ins outs work g → (evaluating.evaluate_of rows strings bits ins outs work).answer ≡ Err g
   unfolding evaluating.evaluate_of
   evaluation_told (lent_short_lem a) = rw a
   evaluation_told (not_good a b) = rw (a, b)
@@ -149,15 +138,15 @@ pub data Unrun (list ins outs work : List ℕ) : Refusal → Type 0 where
   no_room : ltb (length work) 8192 ≡ false → bad_record list ≡ none → assigns (records_with input_op (records list)) ins ≡ true
       → ltb (length outs) (length (outputs list ins)) ≡ true → Unrun list ins outs work (refusal 24 (at 0))
 
-abbrev told_ran : Ran → Refusal
-told_ran (ran.Refused g) = g
-told_ran (ran.Outputs n) = refusal 0 (at 0)
+abbrev told_ran : Result ℕ Refusal → Refusal
+told_ran (Err g) = g
+told_ran (Ok n) = refusal 0 (at 0)
 
 module _ (list ins outs work : List ℕ) (g : Refusal) where
-  ran_by : (h : Refusal) → ran.Refused h ≡ ran.Refused g → Unrun list ins outs work h → Unrun list ins outs work g
+  ran_by : (h : Refusal) → ◌≡◌ {A = Result ℕ Refusal} (Err h) (Err g) → Unrun list ins outs work h → Unrun list ins outs work g
   ran_by h e u = subst (λ (q : Refusal). Unrun list ins outs work q) (ap told_ran e) u
 
-  of_records : ltb (length work) 8192 ≡ false → (b : Option ℕ) → bad_record list ≡ b → (run.ran_from b list ins outs work).answer ≡ ran.Refused g
+  of_records : ltb (length work) 8192 ≡ false → (b : Option ℕ) → bad_record list ≡ b → (run.ran_from b list ins outs work).answer ≡ Err g
       → Unrun list ins outs work g × Left false outs (run.ran_from b list ins outs work).outs work (run.ran_from b list ins outs work).work
   of_records a (some k) b e = (ran_by (refusal 22 (at k)) e (malformed k a b), record { room_kept = refl; work_told = refl })
   of_records a none b e =
@@ -167,7 +156,7 @@ module _ (list ins outs work : List ℕ) (g : Refusal) where
       (λ d. let z : ◌≡◌ {A = ℕ} 0 1 = cc (rw (c, d) at e) in absurd (omega arith)))
       (λ c. (ran_by (refusal 23 (at 0)) (rw c at e) (unassigned a b c), record { room_kept = rw c; work_told = rw c }))
 
-  pub run_refused : (run.run_of list ins outs work).answer ≡ ran.Refused g
+  pub run_refused : (run.run_of list ins outs work).answer ≡ Err g
       → Unrun list ins outs work g × Left (ltb (length work) 8192) outs (run.run_of list ins outs work).outs work (run.run_of list ins outs work).work
   unfolding run.run_of
   run_refused e =
@@ -176,7 +165,7 @@ module _ (list ins outs work : List ℕ) (g : Refusal) where
       (λ a. let l = of_records a (bad_record list) refl (rw a at e) in (l.0, record { room_kept = rw a l.1.room_kept; work_told = rw a l.1.work_told }))
 
 module _ (list ins outs work : List ℕ) where
-  pub run_told : {g : Refusal} → Unrun list ins outs work g → (run.run_of list ins outs work).answer ≡ ran.Refused g
+  pub run_told : {g : Refusal} → Unrun list ins outs work g → (run.run_of list ins outs work).answer ≡ Err g
   unfolding run.run_of
   run_told (lent_short_lem a) = rw a
   run_told (malformed k a b) = rw (a, b)
@@ -184,19 +173,19 @@ module _ (list ins outs work : List ℕ) where
   run_told (no_room a b c d) = rw (a, b, c, d)
 
 -- THE CHECK of a list: the place of its first bad record
-abbrev place_told : Listed → ℕ
-place_told (listed.Bad k) = k
-place_told (listed.Good i o) = 0
+abbrev place_told : Result (ℕ × ℕ) ℕ → ℕ
+place_told (Err k) = k
+place_told (Ok (i, o)) = 0
 
-pub list_bad : (list : List ℕ) (k : ℕ) → listed_of list ≡ listed.Bad k → bad_record list ≡ some k
+pub list_bad : (list : List ℕ) (k : ℕ) → listed_of list ≡ Err k → bad_record list ≡ some k
 unfolding listed_of
 list_bad list k e = go (bad_record list) refl
   where
     go : (b : Option ℕ) → bad_record list ≡ b → bad_record list ≡ some k
-    go (some j) b = b ∙ ap (λ (l : Listed). some (place_told l)) (rw b at e)
+    go (some j) b = b ∙ ap (λ (l : Result (ℕ × ℕ) ℕ). some (place_told l)) (rw b at e)
     go none b = let z : ◌≡◌ {A = ℕ} 0 1 = cc (rw b at e) in absurd (omega arith)
 
-pub bad_listed : (list : List ℕ) (k : ℕ) → bad_record list ≡ some k → listed_of list ≡ listed.Bad k
+pub bad_listed : (list : List ℕ) (k : ℕ) → bad_record list ≡ some k → listed_of list ≡ Err k
 unfolding listed_of
 bad_listed list k b = rw b
 
@@ -207,15 +196,15 @@ pub data Unprinted (rows strings bits room : List ℕ) : Refusal → Type 0 wher
   no_room : short rows strings bits ≡ false → good (tables_in rows strings bits) ≡ true → ltb (length room) (length (canonical (netlist_in rows strings bits))) ≡ true
       → Unprinted rows strings bits room (refusal 24 (at 0))
 
-abbrev told_printed : Printed → Refusal
-told_printed (printed.Refused g) = g
-told_printed (printed.Length n) = refusal 0 (at 0)
+abbrev told_printed : Result ℕ Refusal → Refusal
+told_printed (Err g) = g
+told_printed (Ok n) = refusal 0 (at 0)
 
 module _ (rows strings bits room : List ℕ) (g : Refusal) where
-  printed_by : (h : Refusal) → printed.Refused h ≡ printed.Refused g → Unprinted rows strings bits room h → Unprinted rows strings bits room g
+  printed_by : (h : Refusal) → ◌≡◌ {A = Result ℕ Refusal} (Err h) (Err g) → Unprinted rows strings bits room h → Unprinted rows strings bits room g
   printed_by h e u = subst (λ (q : Refusal). Unprinted rows strings bits room q) (ap told_printed e) u
 
-  pub printing_refused : (printing.print_of rows strings bits room).answer ≡ printed.Refused g
+  pub printing_refused : (printing.print_of rows strings bits room).answer ≡ Err g
       → Unprinted rows strings bits room g × ((printing.print_of rows strings bits room).room ≡ room)
   unfolding printing.print_of printing.written check_of
   printing_refused e =
@@ -228,7 +217,7 @@ module _ (rows strings bits room : List ℕ) (g : Refusal) where
       (λ b. (printed_by (refusal 15 (at 0)) (rw (a, b) at e) (not_good a b), rw (a, b))))
 
 module _ (rows strings bits room : List ℕ) where
-  pub printing_told : {g : Refusal} → Unprinted rows strings bits room g → (printing.print_of rows strings bits room).answer ≡ printed.Refused g
+  pub printing_told : {g : Refusal} → Unprinted rows strings bits room g → (printing.print_of rows strings bits room).answer ≡ Err g
   unfolding printing.print_of printing.written check_of
   printing_told (lent_short_lem a) = rw a
   printing_told (not_good a b) = rw (a, b)
@@ -239,15 +228,15 @@ pub data Unchecked (rows strings bits : List ℕ) : Refusal → Type 0 where
   lent_short_lem : short rows strings bits ≡ true → Unchecked rows strings bits (refusal 1 (at 0))
   not_good : short rows strings bits ≡ false → good (tables_in rows strings bits) ≡ false → Unchecked rows strings bits (refusal 15 (at 0))
 
-abbrev told_checked : Checked → Refusal
-told_checked (checked.Refused g) = g
-told_checked checked.Good = refusal 0 (at 0)
+abbrev told_checked : Result (Unit {0}) Refusal → Refusal
+told_checked (Err g) = g
+told_checked (Ok tt) = refusal 0 (at 0)
 
 module _ (rows strings bits : List ℕ) where
-  checked_by : (g h : Refusal) → checked.Refused h ≡ checked.Refused g → Unchecked rows strings bits h → Unchecked rows strings bits g
+  checked_by : (g h : Refusal) → ◌≡◌ {A = Result (Unit {0}) Refusal} (Err h) (Err g) → Unchecked rows strings bits h → Unchecked rows strings bits g
   checked_by g h e u = subst (λ (q : Refusal). Unchecked rows strings bits q) (ap told_checked e) u
 
-  pub check_refused : (g : Refusal) → check_of rows strings bits ≡ checked.Refused g → Unchecked rows strings bits g
+  pub check_refused : (g : Refusal) → check_of rows strings bits ≡ Err g → Unchecked rows strings bits g
   unfolding check_of
   check_refused g e =
       bool_cases (short rows strings bits)
@@ -256,7 +245,7 @@ module _ (rows strings bits : List ℕ) where
       (λ b. let z : ◌≡◌ {A = ℕ} 0 1 = cc (rw (a, b) at e) in absurd (omega arith))
       (λ b. checked_by g (refusal 15 (at 0)) (rw (a, b) at e) (not_good a b)))
 
-  pub check_told : {g : Refusal} → Unchecked rows strings bits g → check_of rows strings bits ≡ checked.Refused g
+  pub check_told : {g : Refusal} → Unchecked rows strings bits g → check_of rows strings bits ≡ Err g
   unfolding check_of
   check_told (lent_short_lem a) = rw a
   check_told (not_good a b) = rw (a, b)

@@ -1,6 +1,8 @@
 -- EVERY CALL HAS ONE ANSWER. Each entry point's contract is an equation with one of these definitions, which take any bytes and any content
 -- of lent slices; so two outcomes that the contract allows, every lent byte counted, are equal.
 -- Assumes nothing.
+use Rattle.ground.specs.declared.Refusal.{Refusal}
+use Rattle.std.specs.Prelude.{Result}
 use mathlib.Core.Path.{◌≡◌}
 use mathlib.Core.List.{List}
 use Prim.Native.Nat.{ℕ}
@@ -11,7 +13,6 @@ use Rattle.signs.specs.Decoding.{decoded_into}
 use Rattle.brackets.specs.Walks.{walk_of, walk_step, tour_at, tour_step}
 use Rattle.form.specs.Forms.{form_of}
 use Rattle.netlist.specs.Good.{check_of, lookup_of}
-use Rattle.netlist.specs.declared.Checked.{Checked}
 use Rattle.reading.specs.Outcome.{read_of}
 use Rattle.printing.specs.Outcome.{print_of}
 use Rattle.naming.specs.Names.{name_of}
@@ -58,7 +59,7 @@ read_one rows strings bits work = any_two (λ text. read_of text rows strings bi
 
 -- of lent tables
 module _ (rows strings bits : List ℕ) where
-  pub check_one : (o p : Checked) → o ≡ check_of rows strings bits → p ≡ check_of rows strings bits → o ≡ p
+  pub check_one : (o p : Result (Unit {0}) Refusal) → o ≡ check_of rows strings bits → p ≡ check_of rows strings bits → o ≡ p
   check_one = any_two (check_of rows strings) bits
 
   pub lookup_one : One (lookup_of rows strings bits)

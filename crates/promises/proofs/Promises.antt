@@ -1,6 +1,7 @@
 -- THE PROMISES: each demand of the tender in its own words, stated of the definitions that the functions' contracts are equations with.
 -- Each is proved by citing; OneAnswer has the determinacy of every entry point, Unread, Grounds and Asked the refusals, EndToEnd what a
 -- text comes to.
+use Rattle.std.specs.Prelude.{Result, Ok, Err}
 use mathlib.Core.Path.{◌≡◌}
 use mathlib.Core.Bool.{Bool, true, false, ◌||◌}
 use lib.Dec.{ltb}
@@ -16,9 +17,6 @@ use Rattle.netlist.specs.Rules.{valid}
 use Rattle.netlist.specs.Tables.{Tables, layout, rows_length, strings_length, bits_length}
 use Rattle.netlist.specs.View.{view}
 use Rattle.netlist.specs.Good.{good, short, check_of, netlist_in, lookup_of}
-use Rattle.netlist.specs.declared.Checked.{Checked}
-use Rattle.netlist.specs.declared.Checked.TheVariants as checked
-use Rattle.netlist.specs.declared.Found.TheVariants as found
 use Rattle.netlist.proofs.Laying.{Long, Layout, view_layout, good_is, layout_good}
 use Rattle.scanning.specs.Whole.{whole_of}
 use Rattle.lexis.specs.Tokens.{token_at, inside_at}
@@ -27,14 +25,11 @@ use Rattle.brackets.specs.Walks.{walk_of, walk_step, tour_at, tour_step}
 use Rattle.form.specs.Forms.{form_of}
 use Rattle.declaring.specs.Reading.{says, reading}
 use Rattle.reading.specs.Outcome.{read_of, made, work_length}
-use Rattle.reading.specs.declared.Read.TheVariants as read
 use Rattle.lines.specs.Lines.{canonical}
 use Rattle.printing.specs.Outcome.{print_of}
 use Rattle.printing.specs.Outcome as print
-use Rattle.printing.specs.declared.Printed.TheVariants as printed
 use Rattle.naming.specs.Names.{is_ident, full_name, name_of}
 use Rattle.naming.specs.Names as name
-use Rattle.naming.specs.declared.Named.TheVariants as named
 use Rattle.accepting.proofs.Good.{Accepted, accepted_good, says_accepted}
 use Rattle.language.specs.Language.{Says}
 use Rattle.language.proofs.Exactly.{says_read, read_says}
@@ -42,20 +37,16 @@ use Rattle.returning.proofs.RoundTrip.{returns, one_text}
 use Rattle.returning.proofs.TablesBack.{printed_return, tables_return, one_table}
 use Rattle.loadlist.specs.Records.{list_bytes}
 use Rattle.loadlist.specs.Check.{bad_record, listed_of}
-use Rattle.loadlist.specs.declared.Listed.TheVariants as listed
 use Rattle.loadlist.specs.Run.{slots, assigns, run_of}
 use Rattle.loadlist.specs.Run as run
-use Rattle.loadlist.specs.declared.Ran.TheVariants as ran
 use Rattle.placing.specs.Placing.{Ringed, input_bits, outputs_from, ringed}
 use Rattle.placing.proofs.Rings.{ringed_ring, ring_ringed}
 use Rattle.evaluating.specs.Settled.{Setting, Settled}
 use Rattle.evaluating.specs.Outcome.{evaluate_of}
 use Rattle.evaluating.specs.Outcome as evaluate
-use Rattle.evaluating.specs.declared.Evaluated.TheVariants as evaluated
 use Rattle.evaluating.proofs.Settles.{settled, settled_is, settled_unique}
 use Rattle.translating.specs.Outcome.{translate_of}
 use Rattle.translating.specs.Outcome as translate
-use Rattle.translating.specs.declared.Translated.TheVariants as translated
 use Rattle.translating.specs.Translation.{translation, record_sum}
 use Rattle.translating.proofs.Counting.{translation_count}
 use Rattle.translating.proofs.Passing.{translation_passes, translation_bytes}
@@ -86,11 +77,11 @@ read_language = read_says
 
 -- the reader itself accepts every text of the language, where the lent slices have their lengths
 pub language_accepted : (text rows strings bits work : List ℕ) (N : Netlist) → Says text N → short rows strings bits ≡ false → work_length ≤ length work
-    → (read_of text rows strings bits work).answer ≡ read.Accepted
+    → (read_of text rows strings bits work).answer ≡ Ok tt
 language_accepted text rows strings bits work N s = says_accepted text rows strings bits work N (says_read text N s)
 
 -- what reading accepts is good, and shows what the text says
-pub accepted_tables : (text rows strings bits work : List ℕ) → (read_of text rows strings bits work).answer ≡ read.Accepted → Accepted text (read_of text rows strings bits work)
+pub accepted_tables : (text rows strings bits work : List ℕ) → (read_of text rows strings bits work).answer ≡ Ok tt → Accepted text (read_of text rows strings bits work)
 accepted_tables = accepted_good
 
 -- "Printing gives one text for each set of document 01's good tables. Where that text is within the reader's length limit, reading it
@@ -99,27 +90,27 @@ pub text_and_back : (N : Netlist) → valid N ≡ true → length (canonical N) 
 text_and_back = returns
 
 -- .. and of the tables, every word and byte
-pub tables_and_back : (rows strings bits : List ℕ) → check_of rows strings bits ≡ checked.Good → (room work : List ℕ) (n : ℕ)
-    → (print_of rows strings bits room).answer ≡ printed.Length n → n ≤ 65536 → work_length ≤ length work
-    → read_of (take n (print_of rows strings bits room).room) rows strings bits work ≡ made read.Accepted rows strings bits (over work_length (zeros work_length) work)
+pub tables_and_back : (rows strings bits : List ℕ) → check_of rows strings bits ≡ Ok tt → (room work : List ℕ) (n : ℕ)
+    → (print_of rows strings bits room).answer ≡ Ok n → n ≤ 65536 → work_length ≤ length work
+    → read_of (take n (print_of rows strings bits room).room) rows strings bits work ≡ made (Ok tt) rows strings bits (over work_length (zeros work_length) work)
 tables_and_back = printed_return
 
 -- .. read into any lent slices of the fixed lengths, whatever they held
-pub tables_given_back : (rows strings bits : List ℕ) → check_of rows strings bits ≡ checked.Good → (rows' strings' bits' work : List ℕ)
+pub tables_given_back : (rows strings bits : List ℕ) → check_of rows strings bits ≡ Ok tt → (rows' strings' bits' work : List ℕ)
     → length (canonical (netlist_in rows strings bits)) ≤ 65536 → short rows' strings' bits' ≡ false → work_length ≤ length work
     → read_of (canonical (netlist_in rows strings bits)) rows' strings' bits' work
-    ≡ made read.Accepted (over rows_length (take rows_length rows) rows') (over strings_length (take strings_length strings) strings')
+    ≡ made (Ok tt) (over rows_length (take rows_length rows) rows') (over strings_length (take strings_length strings) strings')
     (over bits_length (take bits_length bits) bits') (over work_length (zeros work_length) work)
 tables_given_back = tables_return
 
 -- "Printing gives one text for each set of document 01's good tables": it is printed, wherever the room takes it
-pub text_printed_whole : (rows strings bits : List ℕ) → check_of rows strings bits ≡ checked.Good → (room : List ℕ) → length (canonical (netlist_in rows strings bits)) ≤ length room
+pub text_printed_whole : (rows strings bits : List ℕ) → check_of rows strings bits ≡ Ok tt → (room : List ℕ) → length (canonical (netlist_in rows strings bits)) ≤ length room
     → print_of rows strings bits room
-    ≡ print.made (printed.Length (length (canonical (netlist_in rows strings bits)))) (over (length (canonical (netlist_in rows strings bits))) (canonical (netlist_in rows strings bits)) room)
+    ≡ print.made (Ok (length (canonical (netlist_in rows strings bits)))) (over (length (canonical (netlist_in rows strings bits))) (canonical (netlist_in rows strings bits)) room)
 text_printed_whole = text_printed
 
 -- .. and no two good tables have one text
-pub one_label : (rows strings bits rows' strings' bits' : List ℕ) → check_of rows strings bits ≡ checked.Good → check_of rows' strings' bits' ≡ checked.Good
+pub one_label : (rows strings bits rows' strings' bits' : List ℕ) → check_of rows strings bits ≡ Ok tt → check_of rows' strings' bits' ≡ Ok tt
     → canonical (netlist_in rows strings bits) ≡ canonical (netlist_in rows' strings' bits')
     → (take rows_length rows ≡ take rows_length rows') × (take strings_length strings ≡ take strings_length strings') × (take bits_length bits ≡ take bits_length bits')
 one_label = one_table
@@ -148,7 +139,7 @@ pub reads_answered : (rows strings bits work : List ℕ) → One (λ (text : Lis
 reads_answered = read_one
 
 pub tables_answered : (rows strings bits : List ℕ)
-    → ((o p : Checked) → o ≡ check_of rows strings bits → p ≡ check_of rows strings bits → o ≡ p)
+    → ((o p : Result (Unit {0}) Refusal) → o ≡ check_of rows strings bits → p ≡ check_of rows strings bits → o ≡ p)
     × (One (lookup_of rows strings bits) × (One (print_of rows strings bits) × (((row : ℕ) → One (name_of rows strings bits row))
     × (((ins outs : List ℕ) → One (evaluate_of rows strings bits ins outs)) × ((room : List ℕ) → One (translate_of rows strings bits room))))))
 tables_answered rows strings bits =
@@ -161,78 +152,78 @@ lists_answered = (list_one, run_one)
 -- "This holds for lent tables, load lists and bench values as well as for text": each number is told exactly where its ground holds and none
 -- before it; ".. and what a refusal leaves in lent memory is fixed": rooms are as they were, work space is zero, or as it was after 1
 pub reading_grounds : (text rows strings bits work : List ℕ) (g : Refusal)
-    → ((read_of text rows strings bits work).answer ≡ read.Refused g → Unread text rows strings bits work g)
-    × (Unread text rows strings bits work g → (read_of text rows strings bits work).answer ≡ read.Refused g)
+    → ((read_of text rows strings bits work).answer ≡ Err g → Unread text rows strings bits work g)
+    × (Unread text rows strings bits work g → (read_of text rows strings bits work).answer ≡ Err g)
 reading_grounds text rows strings bits work g = (read_refused text rows strings bits work g, read_told text rows strings bits work)
 
 module _ (rows strings bits : List ℕ) (g : Refusal) where
-  pub check_grounds : (check_of rows strings bits ≡ checked.Refused g → Unchecked rows strings bits g) × (Unchecked rows strings bits g → check_of rows strings bits ≡ checked.Refused g)
+  pub check_grounds : (check_of rows strings bits ≡ Err g → Unchecked rows strings bits g) × (Unchecked rows strings bits g → check_of rows strings bits ≡ Err g)
   check_grounds = (check_refused rows strings bits g, check_told rows strings bits)
 
   pub printing_grounds : (room : List ℕ)
-      → ((print_of rows strings bits room).answer ≡ printed.Refused g → Unprinted rows strings bits room g × ((print_of rows strings bits room).room ≡ room))
-      × (Unprinted rows strings bits room g → (print_of rows strings bits room).answer ≡ printed.Refused g)
+      → ((print_of rows strings bits room).answer ≡ Err g → Unprinted rows strings bits room g × ((print_of rows strings bits room).room ≡ room))
+      × (Unprinted rows strings bits room g → (print_of rows strings bits room).answer ≡ Err g)
   printing_grounds room = (printing_refused rows strings bits room g, printing_told rows strings bits room)
 
   pub naming_grounds : (row : ℕ) (room : List ℕ)
-      → ((name_of rows strings bits row room).answer ≡ named.Refused g → Unnamed rows strings bits row room g × ((name_of rows strings bits row room).room ≡ room))
-      × (Unnamed rows strings bits row room g → (name_of rows strings bits row room).answer ≡ named.Refused g)
+      → ((name_of rows strings bits row room).answer ≡ Err g → Unnamed rows strings bits row room g × ((name_of rows strings bits row room).room ≡ room))
+      × (Unnamed rows strings bits row room g → (name_of rows strings bits row room).answer ≡ Err g)
   naming_grounds row room = (naming_refused rows strings bits row room g, naming_told rows strings bits row room)
 
   pub lookup_grounds : (asked : List ℕ)
-      → (lookup_of rows strings bits asked ≡ found.Refused g → Unfound rows strings bits asked g) × (Unfound rows strings bits asked g → lookup_of rows strings bits asked ≡ found.Refused g)
+      → (lookup_of rows strings bits asked ≡ Err g → Unfound rows strings bits asked g) × (Unfound rows strings bits asked g → lookup_of rows strings bits asked ≡ Err g)
   lookup_grounds asked = (lookup_refused rows strings bits asked g, lookup_told rows strings bits asked)
 
   pub evaluation_grounds : (ins outs work : List ℕ)
-      → ((evaluate_of rows strings bits ins outs work).answer ≡ evaluated.Refused g
+      → ((evaluate_of rows strings bits ins outs work).answer ≡ Err g
       → Unevaluated rows strings bits ins outs work g
       × Left (short rows strings bits || ltb (length work) 8192) outs (evaluate_of rows strings bits ins outs work).outs work (evaluate_of rows strings bits ins outs work).work)
-      × (Unevaluated rows strings bits ins outs work g → (evaluate_of rows strings bits ins outs work).answer ≡ evaluated.Refused g)
+      × (Unevaluated rows strings bits ins outs work g → (evaluate_of rows strings bits ins outs work).answer ≡ Err g)
   evaluation_grounds ins outs work = (evaluation_refused rows strings bits ins outs work g, evaluation_told rows strings bits ins outs work)
 
   -- Demand 3: "Translation is refused only on the grounds named there"
   pub translation_grounds : (room work : List ℕ)
-      → ((translate_of rows strings bits room work).answer ≡ translated.Refused g
+      → ((translate_of rows strings bits room work).answer ≡ Err g
       → Untranslated rows strings bits room work g
       × Left (short rows strings bits || ltb (length work) 8192) room (translate_of rows strings bits room work).room work (translate_of rows strings bits room work).work)
-      × (Untranslated rows strings bits room work g → (translate_of rows strings bits room work).answer ≡ translated.Refused g)
+      × (Untranslated rows strings bits room work g → (translate_of rows strings bits room work).answer ≡ Err g)
   translation_grounds room work = (translation_refused rows strings bits room work g, translation_told rows strings bits room work)
 
-pub list_grounds : (list : List ℕ) (k : ℕ) → (listed_of list ≡ listed.Bad k → bad_record list ≡ some k) × (bad_record list ≡ some k → listed_of list ≡ listed.Bad k)
+pub list_grounds : (list : List ℕ) (k : ℕ) → (listed_of list ≡ Err k → bad_record list ≡ some k) × (bad_record list ≡ some k → listed_of list ≡ Err k)
 list_grounds list k = (list_bad list k, bad_listed list k)
 
 pub run_grounds : (list ins outs work : List ℕ) (g : Refusal)
-    → ((run_of list ins outs work).answer ≡ ran.Refused g
+    → ((run_of list ins outs work).answer ≡ Err g
     → Unrun list ins outs work g × Left (ltb (length work) 8192) outs (run_of list ins outs work).outs work (run_of list ins outs work).work)
-    × (Unrun list ins outs work g → (run_of list ins outs work).answer ≡ ran.Refused g)
+    × (Unrun list ins outs work g → (run_of list ins outs work).answer ≡ Err g)
 run_grounds list ins outs work g = (run_refused list ins outs work g, run_told list ins outs work)
 
 -- Document 01: "The full name of an ident is written parent first": of every ident of good tables, wherever the room takes it
-pub name_written_whole : (rows strings bits : List ℕ) (row : ℕ) (room : List ℕ) → check_of rows strings bits ≡ checked.Good → is_ident (netlist_in rows strings bits) row ≡ true
+pub name_written_whole : (rows strings bits : List ℕ) (row : ℕ) (room : List ℕ) → check_of rows strings bits ≡ Ok tt → is_ident (netlist_in rows strings bits) row ≡ true
     → length (full_name (netlist_in rows strings bits) row) ≤ length room
     → name_of rows strings bits row room
-    ≡ name.made (named.Length (length (full_name (netlist_in rows strings bits) row)))
+    ≡ name.made (Ok (length (full_name (netlist_in rows strings bits) row)))
     (over (length (full_name (netlist_in rows strings bits) row)) (full_name (netlist_in rows strings bits) row) room)
 name_written_whole = name_written
 
 -- Document 01: "A lookup gives the first I/O row whose name equals the asked one"
-pub first_row_found : (rows strings bits asked : List ℕ) (row width : ℕ) → lookup_of rows strings bits asked ≡ found.Row row width
+pub first_row_found : (rows strings bits asked : List ℕ) (row width : ℕ) → lookup_of rows strings bits asked ≡ Ok (row, width)
     → First (netlist_in rows strings bits).ios asked row width
 first_row_found = lookup_first
 
 -- Demand 3: "For every netlist whose cells form no ring and whose list by document 01's sum has at most 8,192 records, translation with
 -- enough lent room succeeds", of all good tables, read from a text or not
-module _ (rows strings bits : List ℕ) (h : check_of rows strings bits ≡ checked.Good) (free : ringed (netlist_in rows strings bits) ≡ false) where
+module _ (rows strings bits : List ℕ) (h : check_of rows strings bits ≡ Ok tt) (free : ringed (netlist_in rows strings bits) ≡ false) where
   pub translation_succeeds : record_sum (netlist_in rows strings bits) ≤ 8192 → (room work : List ℕ) → 8 * record_sum (netlist_in rows strings bits) ≤ length room → 8192 ≤ length work
       → translate_of rows strings bits room work
-      ≡ translate.made (translated.Records (record_sum (netlist_in rows strings bits))) (over (8 * record_sum (netlist_in rows strings bits)) (list_bytes (translation (netlist_in rows strings bits))) room) (translate.cleared work)
+      ≡ translate.made (Ok (record_sum (netlist_in rows strings bits))) (over (8 * record_sum (netlist_in rows strings bits)) (list_bytes (translation (netlist_in rows strings bits))) room) (translate.cleared work)
   translation_succeeds few room work l long = list_made rows strings bits h room work long free few l
 
   -- and so does the evaluation, for every setting of the input bits
   pub evaluation_succeeds : (ins : List ℕ) → assigns (input_bits (netlist_in rows strings bits)) ins ≡ true → (u : Setting) → Settled (netlist_in rows strings bits) ins u
       → (outs work : List ℕ) → length (outputs_from u (netlist_in rows strings bits)) ≤ length outs → 8192 ≤ length work
       → evaluate_of rows strings bits ins outs work
-      ≡ evaluate.made (evaluated.Outputs (length (outputs_from u (netlist_in rows strings bits))))
+      ≡ evaluate.made (Ok (length (outputs_from u (netlist_in rows strings bits))))
       (over (length (outputs_from u (netlist_in rows strings bits))) (outputs_from u (netlist_in rows strings bits)) outs) (evaluate.cleared work)
   evaluation_succeeds = evaluation_made rows strings bits h free
 
@@ -261,7 +252,7 @@ module _ (N : Netlist) (v : valid N ≡ true) where
       pub list_runs_netlist : record_sum N ≤ 8192 → assigns (input_bits N) ins ≡ true → (u : Setting) → Settled N ins u → (outs work : List ℕ)
           → length (outputs_from u N) ≤ length outs → 8192 ≤ length work
           → run_of (list_bytes (translation N)) ins outs work
-          ≡ run.made (ran.Outputs (length (outputs_from u N))) (over (length (outputs_from u N)) (outputs_from u N) outs)
+          ≡ run.made (Ok (length (outputs_from u N))) (over (length (outputs_from u N)) (outputs_from u N) outs)
           (over 8192 (pad 8192 (slots (list_bytes (translation N)) ins)) work)
       list_runs_netlist few given u s outs work = list_runs N v free few ins given u s outs work
 

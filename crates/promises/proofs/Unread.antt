@@ -2,6 +2,8 @@
 -- (5 to 8, left to right, the smaller at one place), then 9 to 13 by number; last 14, left to right". Each ground here says that none
 -- before it holds; so each number is told where its ground is, and nowhere else.
 -- Assumes nothing.
+use Rattle.form.specs.Form.{Form}
+use Rattle.std.specs.Prelude.{Result, Ok, Err, Some, None}
 use mathlib.Core.Path.{◌≡◌, refl, ap, ◌∙◌, sym, subst}
 use mathlib.Core.Bool.{Bool, true, false, ◌||◌}
 use mathlib.Core.List.{List}
@@ -16,13 +18,9 @@ use Rattle.ground.specs.declared.Place.{Place}
 use Rattle.ground.specs.declared.Refusal.{Refusal}
 use Rattle.ground.proofs.Bools.{bool_cases}
 use Rattle.scanning.specs.Whole.{bad_at, ends_in_feed, whole_of}
-use Rattle.scanning.specs.declared.Whole.{Whole}
-use Rattle.scanning.specs.declared.Whole.TheVariants as whole
 use Rattle.lexis.specs.declared.Reader.{Reader}
 use Rattle.form.specs.Forms.{form_at}
 use Rattle.form.specs.declared.Declared.{Declared}
-use Rattle.form.specs.declared.Form.{Form}
-use Rattle.form.specs.declared.Form.TheVariants as form
 use Rattle.netlist.specs.Rules.{widths_of}
 use Rattle.netlist.specs.Good.{short}
 use Rattle.saying.specs.Pieces.{first_unresolved}
@@ -31,8 +29,6 @@ use Rattle.declaring.specs.Reading.{Declarations, all, stopped, declarations_fro
 use Rattle.declaring.proofs.Declaring.{form_stops, form_ends, rule_stops, goes_on}
 use Rattle.language.proofs.Progress.{took_inside, took_past}
 use Rattle.reading.specs.Outcome as reading
-use Rattle.reading.specs.declared.Read.{Read}
-use Rattle.reading.specs.declared.Read.TheVariants as read
 
 -- RULES 9 TO 13, by number: what a declaration breaks, given what those before it say
 pub data Broken (text : List ℕ) (so : Sofar) (d : Declared) : Refusal → Type 0 where
@@ -110,15 +106,15 @@ module _ (text : List ℕ) (so : Sofar) (d : Declared) where
 
 -- THE FIRST DECLARATION THAT IS REFUSED, from a place on and behind what is said: of bad form (5 to 8), or breaking a rule (9 to 13)
 pub data Stopped (text : List ℕ) : ℕ → Sofar → Refusal → Type 0 where
-  misformed : {k : ℕ} {so : Sofar} {g : Refusal} → form_at text k ≡ form.Refused g → Stopped text k so g
-  ruled : {k : ℕ} {so : Sofar} {g : Refusal} (d : Declared) (r : Reader) → form_at text k ≡ form.Took d r → Broken text so d g → Stopped text k so g
-  later : {k : ℕ} {so : Sofar} {g : Refusal} (d : Declared) (r : Reader) → form_at text k ≡ form.Took d r → Kept text so d
+  misformed : {k : ℕ} {so : Sofar} {g : Refusal} → form_at text k ≡ Err g → Stopped text k so g
+  ruled : {k : ℕ} {so : Sofar} {g : Refusal} (d : Declared) (r : Reader) → form_at text k ≡ Ok (Some (d, r)) → Broken text so d g → Stopped text k so g
+  later : {k : ℕ} {so : Sofar} {g : Refusal} (d : Declared) (r : Reader) → form_at text k ≡ Ok (Some (d, r)) → Kept text so d
       → Stopped text r.next.at (added so d.index (said_by text so d.decl)) g → Stopped text k so g
 
 -- .. or all of them taken, which say `more`
 pub data Taken (text : List ℕ) : ℕ → Sofar → Sofar → Type 0 where
-  ended : {k : ℕ} {so : Sofar} → form_at text k ≡ form.End → Taken text k so so
-  next : {k : ℕ} {so more : Sofar} (d : Declared) (r : Reader) → form_at text k ≡ form.Took d r → Kept text so d
+  ended : {k : ℕ} {so : Sofar} → form_at text k ≡ Ok None → Taken text k so so
+  next : {k : ℕ} {so more : Sofar} (d : Declared) (r : Reader) → form_at text k ≡ Ok (Some (d, r)) → Kept text so d
       → Taken text r.next.at (added so d.index (said_by text so d.decl)) more → Taken text k so more
 
 -- the declarations from a place on come to one of the two
@@ -127,7 +123,7 @@ pub data Comes (text : List ℕ) (k : ℕ) (so : Sofar) : Declarations → Type 
   takes : {more : Sofar} → Taken text k so more → Comes text k so (all more)
 
 module _ (text : List ℕ) where
-  comes_on : (k : ℕ) (so : Sofar) (d : Declared) (r : Reader) (ds : Declarations) → form_at text k ≡ form.Took d r → Kept text so d
+  comes_on : (k : ℕ) (so : Sofar) (d : Declared) (r : Reader) (ds : Declarations) → form_at text k ≡ Ok (Some (d, r)) → Kept text so d
       → Comes text r.next.at (added so d.index (said_by text so d.decl)) ds → Comes text k so ds
   comes_on k so d r ds e h (stops s) = stops (later d r e h s)
   comes_on k so d r ds e h (takes t) = takes (next d r e h t)
@@ -138,9 +134,9 @@ module _ (text : List ℕ) where
   comes (suc f) k so l = of_form (form_at text k) refl (λ j so' m. comes f j so' m)
     where
       of_form : (v : Form) → form_at text k ≡ v → ((j : ℕ) (so' : Sofar) → length text - j < f → Comes text j so' (declarations_from f text j so')) → Comes text k so (declarations_from (suc f) text k so)
-      of_form (form.Refused g) v ih = subst (Comes text k so) (sym (form_stops text k so g v f)) (stops (misformed v))
-      of_form form.End v ih = subst (Comes text k so) (sym (form_ends text k so v f)) (takes (ended v))
-      of_form (form.Took d r) v ih = of_rules (ruled_out text so d) refl
+      of_form (Err g) v ih = subst (Comes text k so) (sym (form_stops text k so g v f)) (stops (misformed v))
+      of_form (Ok None) v ih = subst (Comes text k so) (sym (form_ends text k so v f)) (takes (ended v))
+      of_form (Ok (Some (d, r))) v ih = of_rules (ruled_out text so d) refl
         where
           of_rules : (x : Option Refusal) → ruled_out text so d ≡ x → Comes text k so (declarations_from (suc f) text k so)
           of_rules (some g) o = subst (Comes text k so) (sym (rule_stops text k so d r v g o f)) (stops (ruled d r v (broken_by text so d g o)))
@@ -177,8 +173,8 @@ pub data Unsaid (text : List ℕ) : Refusal → Type 0 where
   too_long : ltb 65536 (length text) ≡ true → Unsaid text (refusal 2 (at 65536))
   bad_sequence : (k : ℕ) → ltb 65536 (length text) ≡ false → bad_at text ≡ some k → Unsaid text (refusal 3 (at k))
   unended : ltb 65536 (length text) ≡ false → bad_at text ≡ none → ends_in_feed text ≡ false → Unsaid text (refusal 4 (at (length text)))
-  at_declaration : {g : Refusal} → whole_of text ≡ whole.Sound → Stopped text 0 nothing g → Unsaid text g
-  at_piece : (p : Place) (so : Sofar) → whole_of text ≡ whole.Sound → Taken text 0 nothing so → first_lost so ≡ some p → Unsaid text (refusal 14 p)
+  at_declaration : {g : Refusal} → whole_of text ≡ Ok tt → Stopped text 0 nothing g → Unsaid text g
+  at_piece : (p : Place) (so : Sofar) → whole_of text ≡ Ok tt → Taken text 0 nothing so → first_lost so ≡ some p → Unsaid text (refusal 14 p)
 
 abbrev told : Reading → Refusal
 told (refused g) = g
@@ -188,15 +184,15 @@ module _ (text : List ℕ) where
   unsaid_as : (g h : Refusal) → refused h ≡ refused g → Unsaid text h → Unsaid text g
   unsaid_as g h e u = subst (Unsaid text) (ap told e) u
 
-  of_pieces : (g : Refusal) → whole_of text ≡ whole.Sound → (so : Sofar) → Taken text 0 nothing so → (x : Option Place) → first_lost so ≡ x → resolved so x ≡ refused g → Unsaid text g
+  of_pieces : (g : Refusal) → whole_of text ≡ Ok tt → (so : Sofar) → Taken text 0 nothing so → (x : Option Place) → first_lost so ≡ x → resolved so x ≡ refused g → Unsaid text g
   of_pieces g s so t (some p) f e = unsaid_as g (refusal 14 p) e (at_piece p so s t f)
   of_pieces g s so t none f e = let z : ◌≡◌ {A = ℕ} 0 1 = cc in absurd (omega arith)
 
-  of_declarations : (g : Refusal) → whole_of text ≡ whole.Sound → (ds : Declarations) → Comes text 0 nothing ds → declared ds ≡ refused g → Unsaid text g
+  of_declarations : (g : Refusal) → whole_of text ≡ Ok tt → (ds : Declarations) → Comes text 0 nothing ds → declared ds ≡ refused g → Unsaid text g
   of_declarations g s ds (stops {g = h} x) e = unsaid_as g h e (at_declaration s x)
   of_declarations g s ds (takes {more = so} t) e = of_pieces g s so t (first_lost so) refl e
 
-  of_sound : (g : Refusal) → whole_of text ≡ whole.Sound → reading text ≡ refused g → Unsaid text g
+  of_sound : (g : Refusal) → whole_of text ≡ Ok tt → reading text ≡ refused g → Unsaid text g
   unfolding reading read_sound
   of_sound g s e = of_declarations g s (declarations_from (suc (length text)) text 0 nothing) (comes text (suc (length text)) 0 nothing (omega arith)) (rw s at e)
 
@@ -221,7 +217,7 @@ module _ (text : List ℕ) where
   unsaid_refused (unended a b c) = rw (a, b, c)
   unsaid_refused (at_declaration s x) = sound_refused s x
     where
-      sound_refused : {g : Refusal} → whole_of text ≡ whole.Sound → Stopped text 0 nothing g → reading text ≡ refused g
+      sound_refused : {g : Refusal} → whole_of text ≡ Ok tt → Stopped text 0 nothing g → reading text ≡ refused g
       sound_refused s x = rw (s, stopped_told text x (suc (length text)) (omega arith))
   unsaid_refused (at_piece p so s t f) = rw (s, taken_told text t (suc (length text)) (omega arith), f)
 
@@ -233,27 +229,27 @@ pub data Unread (text rows strings bits work : List ℕ) : Refusal → Type 0 wh
   lent_short_lem : lent_short rows strings bits work ≡ true → Unread text rows strings bits work (refusal 1 (at 0))
   unsaid : {g : Refusal} → lent_short rows strings bits work ≡ false → Unsaid text g → Unread text rows strings bits work g
 
-abbrev refusal_in : Read → Refusal
-refusal_in (read.Refused g) = g
-refusal_in read.Accepted = refusal 0 (at 0)
+abbrev refusal_in : Result (Unit {0}) Refusal → Refusal
+refusal_in (Err g) = g
+refusal_in (Ok tt) = refusal 0 (at 0)
 
 module _ (text rows strings bits work : List ℕ) where
-  left_refused : (g : Refusal) (r : Reading) → (reading.left rows strings bits work r).answer ≡ read.Refused g → r ≡ refused g
+  left_refused : (g : Refusal) (r : Reading) → (reading.left rows strings bits work r).answer ≡ Err g → r ≡ refused g
   left_refused g (says N) e = let z : ◌≡◌ {A = ℕ} 0 1 = cc in absurd (omega arith)
-  left_refused g (refused h) e = ap (λ (r : Read). refused (refusal_in r)) e
+  left_refused g (refused h) e = ap (λ (r : Result (Unit {0}) Refusal). refused (refusal_in r)) e
 
   -- a read that is refused, of slices that are long enough, is refused as its text is
-  pub judged : (g : Refusal) → (reading.read_of text rows strings bits work).answer ≡ read.Refused g → lent_short rows strings bits work ≡ false → reading text ≡ refused g
+  pub judged : (g : Refusal) → (reading.read_of text rows strings bits work).answer ≡ Err g → lent_short rows strings bits work ≡ false → reading text ≡ refused g
   unfolding reading.read_of
   judged g e f = left_refused g (reading text) (rw f at e)
 
-  pub read_refused : (g : Refusal) → (reading.read_of text rows strings bits work).answer ≡ read.Refused g → Unread text rows strings bits work g
+  pub read_refused : (g : Refusal) → (reading.read_of text rows strings bits work).answer ≡ Err g → Unread text rows strings bits work g
   unfolding reading.read_of
   read_refused g e = bool_cases (lent_short rows strings bits work)
       (λ a. subst (Unread text rows strings bits work) (ap refusal_in (rw a at e)) (lent_short_lem a))
       (λ a. unsaid a (refused_unsaid text g (judged g e a)))
 
-  pub read_told : {g : Refusal} → Unread text rows strings bits work g → (reading.read_of text rows strings bits work).answer ≡ read.Refused g
+  pub read_told : {g : Refusal} → Unread text rows strings bits work g → (reading.read_of text rows strings bits work).answer ≡ Err g
   unfolding reading.read_of
   read_told (lent_short_lem a) = rw a
   read_told (unsaid a u) = rw (a, unsaid_refused text u)

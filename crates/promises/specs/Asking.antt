@@ -1,32 +1,18 @@
 -- What a worked case asks of the definitions, and the answer to it.
-use Rattle.std.specs.Prelude.{ℕ, List, [], ◌∷◌}
+use Rattle.std.specs.Prelude.{ℕ, List, [], ◌∷◌, Result, Ok, Err}
 use Rattle.ground.specs.Regions.{zeros}
 use Rattle.ground.specs.declared.Refusal.{Refusal}
 use Rattle.netlist.specs.Netlist.{Netlist}
 use Rattle.netlist.specs.Good.{lookup}
-use Rattle.netlist.specs.declared.Found.{Found}
-use Rattle.netlist.specs.declared.Found.TheVariants as found
 use Rattle.declaring.specs.Reading.{Reading, says, refused, reading}
 use Rattle.printing.specs.Outcome as print
 use Rattle.lines.specs.Lines.{canonical}
-use Rattle.printing.specs.declared.Printed.{Printed}
-use Rattle.printing.specs.declared.Printed.TheVariants as printed
 use Rattle.naming.specs.Names as name
-use Rattle.naming.specs.declared.Named.{Named}
-use Rattle.naming.specs.declared.Named.TheVariants as named
 use Rattle.loadlist.specs.Check.{listed_of}
-use Rattle.loadlist.specs.declared.Listed.{Listed}
-use Rattle.loadlist.specs.declared.Listed.TheVariants as listed
 use Rattle.loadlist.specs.Run as run
-use Rattle.loadlist.specs.declared.Ran.{Ran}
-use Rattle.loadlist.specs.declared.Ran.TheVariants as ran
 use Rattle.placing.specs.Placing.{cell_at}
 use Rattle.evaluating.specs.Outcome as evaluate
-use Rattle.evaluating.specs.declared.Evaluated.{Evaluated}
-use Rattle.evaluating.specs.declared.Evaluated.TheVariants as evaluated
 use Rattle.translating.specs.Outcome as translate
-use Rattle.translating.specs.declared.Translated.{Translated}
-use Rattle.translating.specs.declared.Translated.TheVariants as translated
 
 pub data Ask : Type 0 where
   -- is the text a netlist
@@ -65,38 +51,38 @@ abbrev pub of_text : (Netlist → Answer) → Reading → Answer
 of_text f (says N) = f N
 of_text f (refused g) = told g
 
-abbrev printed_answer : Printed → List ℕ → Answer
-printed_answer (printed.Length n) room = gives n room
-printed_answer (printed.Refused g) room = told g
+abbrev printed_answer : Result ℕ Refusal → List ℕ → Answer
+printed_answer (Ok n) room = gives n room
+printed_answer (Err g) room = told g
 
-abbrev named_answer : Named → List ℕ → Answer
-named_answer (named.Length n) room = gives n room
-named_answer (named.Refused g) room = told g
+abbrev named_answer : Result ℕ Refusal → List ℕ → Answer
+named_answer (Ok n) room = gives n room
+named_answer (Err g) room = told g
 
-abbrev found_answer : Found → Answer
-found_answer (found.Row row width) = gives row (width ∷ [])
-found_answer (found.Refused g) = told g
+abbrev found_answer : Result (ℕ × ℕ) Refusal → Answer
+found_answer (Ok (row, width)) = gives row (width ∷ [])
+found_answer (Err g) = told g
 
-abbrev evaluated_answer : Evaluated → List ℕ → Answer
-evaluated_answer (evaluated.Outputs n) outs = gives n outs
-evaluated_answer (evaluated.Refused g) outs = told g
+abbrev evaluated_answer : Result ℕ Refusal → List ℕ → Answer
+evaluated_answer (Ok n) outs = gives n outs
+evaluated_answer (Err g) outs = told g
 
-abbrev translated_answer : Translated → List ℕ → Answer
-translated_answer (translated.Records n) room = gives n room
-translated_answer (translated.Refused g) room = told g
+abbrev translated_answer : Result ℕ Refusal → List ℕ → Answer
+translated_answer (Ok n) room = gives n room
+translated_answer (Err g) room = told g
 
-abbrev count_answer : Translated → Answer
-count_answer (translated.Records n) = counts n
-count_answer (translated.Refused g) = told g
+abbrev count_answer : Result ℕ Refusal → Answer
+count_answer (Ok n) = counts n
+count_answer (Err g) = told g
 
 -- 22: "load list malformed", at the first bad record
-abbrev listed_answer : Listed → Answer
-listed_answer (listed.Good inputs outputs) = gives inputs (outputs ∷ [])
-listed_answer (listed.Bad k) = refused_at 22 k
+abbrev listed_answer : Result (ℕ × ℕ) ℕ → Answer
+listed_answer (Ok (inputs, outputs)) = gives inputs (outputs ∷ [])
+listed_answer (Err k) = refused_at 22 k
 
-abbrev ran_answer : Ran → List ℕ → Answer
-ran_answer (ran.Outputs n) outs = gives n outs
-ran_answer (ran.Refused g) outs = told g
+abbrev ran_answer : Result ℕ Refusal → List ℕ → Answer
+ran_answer (Ok n) outs = gives n outs
+ran_answer (Err g) outs = told g
 
 unfoldable pub answer_to : Ask → Answer
 answer_to (to_read text) = of_text (λ N. accepted) (reading text)

@@ -58,10 +58,8 @@ fn put_bytes(room: &mut [u8], n: usize, pool: &[u8], from: u32, size: u32) -> us
     let start = wide(from);
     let end = end_of(start, size, pool.len());
     let mut n = n;
-    let mut i = start;
-    while i < end {
+    for i in start..end {
         n = put_byte(room, n, pool[i]);
-        i += 1;
     }
     n
 }
@@ -93,10 +91,8 @@ pub fn put_trits(room: &mut [u8], n: usize, pool: &[u8], from: u32, size: u32) -
     let start = wide(from);
     let end = end_of(start, size, pool.len());
     let mut n = n;
-    let mut i = start;
-    while i < end {
+    for i in start..end {
         n = put(room, n, trit_char(pool[i]));
-        i += 1;
     }
     n
 }

@@ -2,21 +2,18 @@
 // answer and every lent byte, as reading defines them. The end of a reading and the loop over declarations stand below it.
 #![tactic(auto)]
 
-ghost use Rattle.std.specs.Prelude.{◌≡◌, ◌≤◌, length};
+ghost use Rattle.std.specs.Prelude.{◌≡◌, ◌≤◌, length, Err};
 ghost use Rattle.ground.specs.Regions.{zeros};
 ghost use Rattle.ground.specs.Refusals.{at, refusal};
 ghost use Rattle.declaring.specs.Going.{Blank};
 ghost use Rattle.declaring.specs.Reading.{reading};
 ghost use Rattle.reading.specs.Answers.{Answers, Clears};
 ghost use Rattle.reading.specs.Outcome.{made, filled, behind_rows, behind_strings, behind_bits, behind_work, read_of};
-ghost use Rattle.reading.specs.declared.Read.TheVariants as read;
 
 use clearing::{clear_bytes, clear_words};
-use declaring::declarations::{Told, declarations};
+use declaring::declarations::declarations;
 use ending::end_reading;
 use ground::{Place, Refusal};
-use reading::Read;
-use scanning::Whole;
 use scanning::scan::whole;
 
 // A text that is sound as a whole, into blank tables.
@@ -26,28 +23,31 @@ fn read_sound(
     strings: &mut [u8],
     bits: &mut [u8],
     work: &mut [u32],
-) -> Read
+) -> Result<(), Refusal>
     requires { (length text.now ≤ 65536) × Blank rows.old bits.old work.old × (strings.old ≡ zeros 16384) }
     ensures { Answers text.now result rows.new strings.new bits.new }
 {
-    match declarations(text, rows, bits, work) {
-        Told::Stopped(g) => Read::Refused(g),
-        Told::All(n) => end_reading(text, rows, strings, work, n),
-    }
+    let n = declarations(text, rows, bits, work)?;
+    end_reading(text, rows, strings, work, n)
 }
 
 // A refusal leaves the tables zero, whatever was noted before it.
-fn cleared(r: Read, rows: &mut [u32], strings: &mut [u8], bits: &mut [u8]) -> Read
+fn cleared(
+    r: Result<(), Refusal>,
+    rows: &mut [u32],
+    strings: &mut [u8],
+    bits: &mut [u8],
+) -> Result<(), Refusal>
     requires { (length rows.old ≡ 26307) × (length strings.old ≡ 16384) × (length bits.old ≡ 393728) }
     ensures { Clears r rows.old strings.old bits.old result rows.new strings.new bits.new }
 {
     match r {
-        Read::Accepted => Read::Accepted,
-        Read::Refused(g) => {
+        Ok(()) => Ok(()),
+        Err(g) => {
             clear_words(rows);
             clear_bytes(strings);
             clear_bytes(bits);
-            Read::Refused(g)
+            Err(g)
         }
     }
 }
@@ -59,17 +59,13 @@ fn read_blank(
     strings: &mut [u8],
     bits: &mut [u8],
     work: &mut [u32],
-) -> Read
+) -> Result<(), Refusal>
     requires { Blank rows.old bits.old work.old × (strings.old ≡ zeros 16384) }
     ensures { made result rows.new strings.new bits.new (zeros 132608) ≡ filled (reading text.now) }
 {
-    match whole(text) {
-        Whole::Unsound(g) => Read::Refused(g),
-        Whole::Sound => {
-            let r = read_sound(text, rows, strings, bits, work);
-            cleared(r, rows, strings, bits)
-        }
-    }
+    whole(text)?;
+    let r = read_sound(text, rows, strings, bits, work);
+    cleared(r, rows, strings, bits)
 }
 
 // Any text, into slices of exactly the fixed lengths, whatever they hold.
@@ -79,7 +75,7 @@ fn read_in(
     strings: &mut [u8],
     bits: &mut [u8],
     work: &mut [u32],
-) -> Read
+) -> Result<(), Refusal>
     requires { (length rows.old ≡ 26307) × (length strings.old ≡ 16384) × (length bits.old ≡ 393728) × (length work.old ≡ 132608) }
     ensures { made result rows.new strings.new bits.new work.new ≡ filled (reading text.now) }
 {
@@ -105,69 +101,33 @@ fn work_end() -> usize
     132608
 }
 
-// The same in longer work space.
-fn read_past_work(
-    text: &[u8],
-    rows: &mut [u32],
-    strings: &mut [u8],
-    bits: &mut [u8],
-    work: &mut [u32],
-) -> Read
-    requires { (length rows.old ≡ 26307) × (length strings.old ≡ 16384) × (length bits.old ≡ 393728) × (132608 ≤ length work.old) }
-    ensures { made result rows.new strings.new bits.new work.new ≡ behind_work work.old (filled (reading text.now)) }
-{
-    let end = work_end();
-    read_in(text, rows, strings, bits, &mut work[0..end])
-}
-
-// The same with trits lent past their fixed length, too.
-fn read_past_bits(
-    text: &[u8],
-    rows: &mut [u32],
-    strings: &mut [u8],
-    bits: &mut [u8],
-    work: &mut [u32],
-) -> Read
-    requires { (length rows.old ≡ 26307) × (length strings.old ≡ 16384) × (393728 ≤ length bits.old) × (132608 ≤ length work.old) }
-    ensures { made result rows.new strings.new bits.new work.new ≡ behind_bits bits.old (behind_work work.old (filled (reading text.now))) }
-{
-    let end = trits_end();
-    read_past_work(text, rows, strings, &mut bits[0..end], work)
-}
-
-// The same with strings lent past their fixed length, too.
-fn read_past_strings(
-    text: &[u8],
-    rows: &mut [u32],
-    strings: &mut [u8],
-    bits: &mut [u8],
-    work: &mut [u32],
-) -> Read
-    requires { (length rows.old ≡ 26307) × (16384 ≤ length strings.old) × (393728 ≤ length bits.old) × (132608 ≤ length work.old) }
-    ensures { made result rows.new strings.new bits.new work.new ≡ behind_strings strings.old (behind_bits bits.old (behind_work work.old (filled (reading text.now)))) }
-{
-    read_past_bits(text, rows, &mut strings[0..16384], bits, work)
-}
-
 // The same with every slice as long as the caller likes.
-fn read_past_rows(
+fn read_past(
     text: &[u8],
     rows: &mut [u32],
     strings: &mut [u8],
     bits: &mut [u8],
     work: &mut [u32],
-) -> Read
+) -> Result<(), Refusal>
     requires { (26307 ≤ length rows.old) × (16384 ≤ length strings.old) × (393728 ≤ length bits.old) × (132608 ≤ length work.old) }
     ensures { made result rows.new strings.new bits.new work.new ≡ behind_rows rows.old (behind_strings strings.old (behind_bits bits.old (behind_work work.old (filled (reading text.now))))) }
 {
-    read_past_strings(text, &mut rows[0..26307], strings, bits, work)
+    let trits = trits_end();
+    let end = work_end();
+    read_in(
+        text,
+        &mut rows[0..26307],
+        &mut strings[0..16384],
+        &mut bits[0..trits],
+        &mut work[0..end],
+    )
 }
 
-fn too_short() -> Read
-    ensures { result ≡ read.Refused (refusal 1 (at 0)) }
+fn too_short() -> Result<(), Refusal>
+    ensures { result ≡ Err (refusal 1 (at 0)) }
 {
     let place = Place { at: 0 };
-    Read::Refused(Refusal { number: 1, place })
+    Err(Refusal { number: 1, place })
 }
 
 // The reading of a text into three lent tables, in lent work space.
@@ -177,7 +137,7 @@ pub fn read_text(
     strings: &mut [u8],
     bits: &mut [u8],
     work: &mut [u32],
-) -> Read
+) -> Result<(), Refusal>
     ensures { made result rows.new strings.new bits.new work.new ≡ read_of text.now rows.old strings.old bits.old work.old }
 {
     if rows.len() < 26307 {
@@ -192,5 +152,5 @@ pub fn read_text(
     if work.len() < 132608 {
         return too_short();
     }
-    read_past_rows(text, rows, strings, bits, work)
+    read_past(text, rows, strings, bits, work)
 }

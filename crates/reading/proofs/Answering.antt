@@ -1,8 +1,9 @@
 -- What the noted declarations answer, and the ways out of a reading.
+use Rattle.std.specs.Prelude.{Result, Ok, Err, Option, Some, None}
 use mathlib.Core.Path.{◌≡◌, refl, sym, ap, ap₂, ◌∙◌, subst}
 use mathlib.Core.Bool.{Bool, true, false, ◌||◌}
 use mathlib.Core.List.{List, [], ◌∷◌, ◌++◌, map, append_assoc}
-use mathlib.Core.Option.{Option, none, some}
+use mathlib.Core.Option.{Option as Found, none, some}
 use Prim.Native.Nat.{ℕ, zero, suc, ◌+◌, ◌-◌, ◌*◌, ◌<◌, ◌≤◌}
 use native.Mathlib.Nat.{zero-add, suc-mul, suc-add, add_assoc}
 use native.Mathlib.Omega.{arith}
@@ -20,7 +21,6 @@ use Rattle.ground.specs.declared.Place.{Place}
 use Rattle.ground.specs.declared.Refusal.{Refusal}
 use Rattle.ground.proofs.Counts.{length_mapped}
 use Rattle.scanning.specs.Whole.{whole_of}
-use Rattle.scanning.specs.declared.Whole.TheVariants as whole
 use Rattle.netlist.specs.Netlist.{Cell, Netlist, runs_of}
 use Rattle.netlist.specs.Rules.{widths_of}
 use Rattle.netlist.specs.Good.{short}
@@ -30,8 +30,6 @@ use Rattle.saying.specs.Notes.{CellNote, cell_note, cells_said}
 use Rattle.noting.specs.Noted.{cells_in, runs_in, cell_map_in, places_in, Noted}
 use Rattle.noting.specs.declared.Tally.{Tally}
 use Rattle.resolving.specs.Resolving.{Looks, rows_resolve, lost_at, lost_of}
-use Rattle.resolving.specs.declared.Lost.{Lost}
-use Rattle.resolving.specs.declared.Lost.TheVariants as lost
 use Rattle.resolving.proofs.Finding.{all_found}
 use Rattle.resolving.proofs.RunsFound.{runs_sound}
 use Rattle.declaring.specs.Reading.{Reading, says, refused, declarations_from, netlist_of, read_sound, reading}
@@ -39,10 +37,6 @@ use Rattle.reading.specs.Outcome.{Outcome, made, left, filled, behind_rows, behi
 use Rattle.finishing.specs.Finish.{Ready, Settled}
 use Rattle.declaring.specs.Going.{Blank, Whole, AllNoted, AllOf}
 use Rattle.reading.specs.Answers.{rows_found, FindsLost, Laid, AnswersOf, Answers, ClearsOf, Clears, Ends}
-use Rattle.reading.specs.declared.Read.{Read}
-use Rattle.reading.specs.declared.Read.TheVariants as read
-use Rattle.declaring.specs.declared.declarations.Told.{Told}
-use Rattle.declaring.specs.declared.declarations.Told.TheVariants as told
 use Rattle.reading.proofs.Final.{rows_final, bits_final, strings_final}
 
 -- THE WIDTHS stand in the cell rows
@@ -67,7 +61,7 @@ looks text so n rows bits work d =
       width = λ i h. ap (λ (t : List ℕ). get_or t (i * 9 + 1) 0) d.cells.rows ∙ width_at ns (zeros (4608 - length (joined cell_note ns))) i (omega (arith, l, m)) ∙ ap (λ (t : List ℕ). get_or t i 0) e;
     }
 
-pub lost_found : (text : List ℕ) (n : Tally) (rows work : List ℕ) (r : Lost) → r ≡ lost_of text (cell_map_in work) (cells_in rows) (n.cells * 3) (places_in work) → FindsLost text n rows work r
+pub lost_found : (text : List ℕ) (n : Tally) (rows work : List ℕ) (r : Option Place) → r ≡ lost_of text (cell_map_in work) (cells_in rows) (n.cells * 3) (places_in work) → FindsLost text n rows work r
 lost_found text n rows work r e = record {
   is = λ so bits d.
       e ∙ all_found so.cell_numbers (widths_of so.netlist.cells) (cell_map_in work) (cells_in rows) (looks text so n rows bits work d) text d.cells.operands (places_in work) (n.cells * 3) d.cells.placed
@@ -76,7 +70,7 @@ lost_found text n rows work r e = record {
 }
 
 -- run rows that tell that all is found
-pub rows_tell : (text : List ℕ) (n : Tally) (rows work : List ℕ) → rows_found n rows work ≡ true → FindsLost text n rows work lost.Nowhere
+pub rows_tell : (text : List ℕ) (n : Tally) (rows work : List ℕ) → rows_found n rows work ≡ true → FindsLost text n rows work None
 rows_tell text n rows work e = record {
   is = λ so bits d.
       let t = both n.bare (rows_resolve (cell_map_in work) (cells_in rows) n.runs (runs_in rows)) e in
@@ -91,37 +85,29 @@ rows_tell text n rows work e = record {
     both false r e = (refl, e)
 
 -- THE END of a reading whose declarations are all noted
-abbrev where_lost : Lost → ℕ
-where_lost (lost.At p) = 1
-where_lost lost.Nowhere = 0
+found_at : (o : Found Place) (p : Place) → lost_at o ≡ Some p → o ≡ some p
+found_at none p e = cc
+found_at (some q) p e = cc
 
-abbrev place_lost : Lost → Place
-place_lost (lost.At p) = p
-place_lost lost.Nowhere = at 0
-
-found_at : (o : Option Place) (p : Place) → lost_at o ≡ lost.At p → o ≡ some p
-found_at none p e = let z : ◌≡◌ {A = ℕ} 0 1 = ap where_lost e in absurd (omega arith)
-found_at (some q) p e = ap some (ap place_lost e)
-
-found_none : (o : Option Place) → lost_at o ≡ lost.Nowhere → o ≡ none
+found_none : (o : Found Place) → lost_at o ≡ None → o ≡ none
 found_none none e = refl
-found_none (some q) e = let z : ◌≡◌ {A = ℕ} 1 0 = ap where_lost e in absurd (omega arith)
+found_none (some q) e = cc
 
-module _ {text : List ℕ} {n : Tally} {rows work : List ℕ} {v : Lost} (f : FindsLost text n rows work v) where
-  none_lost : v ≡ lost.Nowhere → (bits : List ℕ) (w : Whole text n rows bits work) → first_unresolved w.so.cell_numbers (widths_of w.so.netlist.cells) w.so.pieces ≡ none
+module _ {text : List ℕ} {n : Tally} {rows work : List ℕ} {v : Option Place} (f : FindsLost text n rows work v) where
+  none_lost : v ≡ None → (bits : List ℕ) (w : Whole text n rows bits work) → first_unresolved w.so.cell_numbers (widths_of w.so.netlist.cells) w.so.pieces ≡ none
   none_lost e bits w = found_none _ (sym (f.is w.so bits w.noted) ∙ e)
 
-  pub all_ready : v ≡ lost.Nowhere → (bits : List ℕ) (w : Whole text n rows bits work) → Ready text w.so n rows bits work
+  pub all_ready : v ≡ None → (bits : List ℕ) (w : Whole text n rows bits work) → Ready text w.so n rows bits work
   all_ready e bits w = record { noted = w.noted; declared = w.knows.declared w.so.cell_numbers (widths_of w.so.netlist.cells) (none_lost e bits w) }
 
-  pub end_lost : (p : Place) → v ≡ lost.At p → (strings : List ℕ) → Ends text n rows work (read.Refused (refusal 14 p)) rows strings
+  pub end_lost : (p : Place) → v ≡ Some p → (strings : List ℕ) → Ends text n rows work (Err (refusal 14 p)) rows strings
   unfolding read_sound
   end_lost p e strings = record {
     of = λ bits w. record { of = rw (w.is, found_at (first_unresolved w.so.cell_numbers (widths_of w.so.netlist.cells) w.so.pieces) p (sym (f.is w.so bits w.noted) ∙ e)) };
   }
 
-  pub end_found : v ≡ lost.Nowhere → {rows' strings strings' : List ℕ} → strings ≡ zeros 16384 → ((so : Sofar) (bits : List ℕ) → Ready text so n rows bits work → strings ≡ zeros 16384 → Settled so rows' strings' bits)
-      → Ends text n rows work read.Accepted rows' strings'
+  pub end_found : v ≡ None → {rows' strings strings' : List ℕ} → strings ≡ zeros 16384 → ((so : Sofar) (bits : List ℕ) → Ready text so n rows bits work → strings ≡ zeros 16384 → Settled so rows' strings' bits)
+      → Ends text n rows work (Ok tt) rows' strings'
   unfolding read_sound
   end_found e {rows'} {strings} {strings'} z s = record {
     of = λ bits w.
@@ -138,39 +124,39 @@ module _ {text : List ℕ} {n : Tally} {rows work : List ℕ} {v : Lost} (f : Fi
   }
 
 -- a declaration that is refused, or all of them
-module _ {text : List ℕ} {v : Told} {rows bits work : List ℕ} (a : AllNoted text v rows bits work) where
-  pub sound_stopped : (g : Refusal) → v ≡ told.Stopped g → {rows' strings' bits' : List ℕ} → Answers text (read.Refused g) rows' strings' bits'
+module _ {text : List ℕ} {v : Result Tally Refusal} {rows bits work : List ℕ} (a : AllNoted text v rows bits work) where
+  pub sound_stopped : (g : Refusal) → v ≡ Err g → {rows' strings' bits' : List ℕ} → Answers text (Err g) rows' strings' bits'
   unfolding read_sound
-  sound_stopped g e = record { of = rw (subst (λ (x : Told). AllOf text x rows bits work) e a.after) }
+  sound_stopped g e = record { of = rw (subst (λ (x : Result Tally Refusal). AllOf text x rows bits work) e a.after) }
 
-  pub sound_all : (n : Tally) → v ≡ told.All n → Whole text n rows bits work
-  sound_all n e = subst (λ (x : Told). AllOf text x rows bits work) e a.after
+  pub sound_all : (n : Tally) → v ≡ Ok n → Whole text n rows bits work
+  sound_all n e = subst (λ (x : Result Tally Refusal). AllOf text x rows bits work) e a.after
 
 -- THE ANSWER with its tables
-answered : (text : List ℕ) (r v : Read) (rows strings bits rows' strings' bits' : List ℕ) → AnswersOf text r rows strings bits → ClearsOf r rows strings bits v rows' strings' bits'
+answered : (text : List ℕ) (r v : Result (Unit {0}) Refusal) (rows strings bits rows' strings' bits' : List ℕ) → AnswersOf text r rows strings bits → ClearsOf r rows strings bits v rows' strings' bits'
     → made v rows' strings' bits' (zeros 132608) ≡ filled (read_sound text)
-answered text read.Accepted v rows strings bits rows' strings' bits' a c =
+answered text (Ok tt) v rows strings bits rows' strings' bits' a c =
     rw (c.0, c.1, c.2, c.3, a.is, a.rows, a.strings, a.bits)
-answered text (read.Refused g) v rows strings bits rows' strings' bits' a c = rw (c.0, c.1, c.2, c.3, a)
+answered text (Err g) v rows strings bits rows' strings' bits' a c = rw (c.0, c.1, c.2, c.3, a)
 
 module _ (text : List ℕ) where
-  pub sound_read : whole_of text ≡ whole.Sound → {r v : Read} {rows strings bits rows' strings' bits' : List ℕ} → Answers text r rows strings bits → Clears r rows strings bits v rows' strings' bits'
+  pub sound_read : whole_of text ≡ Ok tt → {r v : Result (Unit {0}) Refusal} {rows strings bits rows' strings' bits' : List ℕ} → Answers text r rows strings bits → Clears r rows strings bits v rows' strings' bits'
       → made v rows' strings' bits' (zeros 132608) ≡ filled (reading text)
   unfolding reading
   sound_read e {r} {v} {rows} {strings} {bits} {rows'} {strings'} {bits'} a c = rw e (answered text r v rows strings bits rows' strings' bits' a.of c.of)
 
-  pub unsound_read : (g : Refusal) → whole_of text ≡ whole.Unsound g → made (read.Refused g) (zeros 26307) (zeros 16384) (zeros 393728) (zeros 132608) ≡ filled (reading text)
+  pub unsound_read : (g : Refusal) → whole_of text ≡ Err g → made (Err g) (zeros 26307) (zeros 16384) (zeros 393728) (zeros 132608) ≡ filled (reading text)
   unfolding reading
   unsound_read g e = rw e
 
 -- A REFUSAL leaves the tables zero
-module _ {r : Read} {rows strings bits : List ℕ} where
-  pub clears_none : r ≡ read.Accepted → Clears r rows strings bits read.Accepted rows strings bits
-  clears_none e = record { of = subst (λ (x : Read). ClearsOf x rows strings bits read.Accepted rows strings bits) (sym e) (refl, refl, refl, refl) }
+module _ {r : Result (Unit {0}) Refusal} {rows strings bits : List ℕ} where
+  pub clears_none : r ≡ Ok tt → Clears r rows strings bits (Ok tt) rows strings bits
+  clears_none e = record { of = subst (λ (x : Result (Unit {0}) Refusal). ClearsOf x rows strings bits (Ok tt) rows strings bits) (sym e) (refl, refl, refl, refl) }
 
-  pub clears_all : (g : Refusal) → r ≡ read.Refused g → {rows' strings' bits' : List ℕ} → rows' ≡ zeros 26307 → strings' ≡ zeros 16384 → bits' ≡ zeros 393728
-      → Clears r rows strings bits (read.Refused g) rows' strings' bits'
-  clears_all g e {rows'} {strings'} {bits'} a b c = record { of = subst (λ (x : Read). ClearsOf x rows strings bits (read.Refused g) rows' strings' bits') (sym e) (refl, a, b, c) }
+  pub clears_all : (g : Refusal) → r ≡ Err g → {rows' strings' bits' : List ℕ} → rows' ≡ zeros 26307 → strings' ≡ zeros 16384 → bits' ≡ zeros 393728
+      → Clears r rows strings bits (Err g) rows' strings' bits'
+  clears_all g e {rows'} {strings'} {bits'} a b c = record { of = subst (λ (x : Result (Unit {0}) Refusal). ClearsOf x rows strings bits (Err g) rows' strings' bits') (sym e) (refl, a, b, c) }
 
 -- SLICES of any length
 filled_behind : (rows strings bits work : List ℕ) (v : Reading) → behind_rows rows (behind_strings strings (behind_bits bits (behind_work work (filled v)))) ≡ left rows strings bits work v
@@ -183,22 +169,22 @@ module _ (text rows strings bits work : List ℕ) where
   pub read_one : (o p : Outcome) → o ≡ read_of text rows strings bits work → p ≡ read_of text rows strings bits work → o ≡ p
   read_one = any_two (λ (t : List ℕ). read_of t rows strings bits work) text
 
-  pub short_rows : length rows < 26307 → made (read.Refused (refusal 1 (at 0))) rows strings bits work ≡ read_of text rows strings bits work
+  pub short_rows : length rows < 26307 → made (Err (refusal 1 (at 0))) rows strings bits work ≡ read_of text rows strings bits work
   unfolding read_of short
   short_rows h = rw (lt-ltb (length rows) 26307 h)
 
   module _ (a : 26307 ≤ length rows) where
-    pub short_strings : length strings < 16384 → made (read.Refused (refusal 1 (at 0))) rows strings bits work ≡ read_of text rows strings bits work
+    pub short_strings : length strings < 16384 → made (Err (refusal 1 (at 0))) rows strings bits work ≡ read_of text rows strings bits work
     unfolding read_of short
     short_strings h = rw (le-ltb (length rows) 26307 a, lt-ltb (length strings) 16384 h)
 
     module _ (b : 16384 ≤ length strings) where
-      pub short_bits : length bits < 393728 → made (read.Refused (refusal 1 (at 0))) rows strings bits work ≡ read_of text rows strings bits work
+      pub short_bits : length bits < 393728 → made (Err (refusal 1 (at 0))) rows strings bits work ≡ read_of text rows strings bits work
       unfolding read_of short
       short_bits h = rw (le-ltb (length rows) 26307 a, le-ltb (length strings) 16384 b, lt-ltb (length bits) 393728 h)
 
       module _ (c : 393728 ≤ length bits) where
-        pub short_work : length work < 132608 → made (read.Refused (refusal 1 (at 0))) rows strings bits work ≡ read_of text rows strings bits work
+        pub short_work : length work < 132608 → made (Err (refusal 1 (at 0))) rows strings bits work ≡ read_of text rows strings bits work
         unfolding read_of short
         short_work h = rw (le-ltb (length rows) 26307 a, le-ltb (length strings) 16384 b, le-ltb (length bits) 393728 c, lt-ltb (length work) 132608 h)
 

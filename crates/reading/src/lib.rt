@@ -4,10 +4,3 @@
 #![tactic(auto)]
 
 use ground::Refusal;
-
-// What reading answers.
-#[derive(Clone, Copy)]
-pub enum Read {
-    Accepted,
-    Refused(Refusal),
-}

@@ -1,14 +1,13 @@
 -- All that a caller in C sees after a read.
-use Rattle.std.specs.Prelude.{ℕ, List}
+use Rattle.ground.specs.declared.Refusal.{Refusal}
+use Rattle.std.specs.Prelude.{ℕ, List, Result, Ok, Err}
 use Rattle.reading.specs.Outcome.{Outcome}
-use Rattle.reading.specs.declared.Read.{Read}
-use Rattle.reading.specs.declared.Read.TheVariants as read
 use Rattle.textlib.specs.Told.{told_of}
 use Rattle.textlib.specs.declared.Told.{Told}
 
-abbrev pub told_read : Read → Told
-told_read read.Accepted = told_of 0 0
-told_read (read.Refused g) = told_of g.number g.place.at
+abbrev pub told_read : Result (Unit {0}) Refusal → Told
+told_read (Ok tt) = told_of 0 0
+told_read (Err g) = told_of g.number g.place.at
 
 pub record Seen : Type 0 where
   pub told : Told

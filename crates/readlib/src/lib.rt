@@ -6,16 +6,16 @@ ghost use Rattle.std.specs.Prelude.{◌≡◌};
 ghost use Rattle.reading.specs.Outcome.{read_of};
 ghost use Rattle.readlib.specs.Seen.{told_read, seen, seen_of};
 
+use ground::Refusal;
 use reader::read_text;
-use reading::Read;
 use textlib::{Told, accepted, told_by};
 
-fn tell_read(r: Read) -> Told
+fn tell_read(r: Result<(), Refusal>) -> Told
     ensures { result ≡ told_read r }
 {
     match r {
-        Read::Accepted => accepted(),
-        Read::Refused(g) => told_by(g),
+        Ok(()) => accepted(),
+        Err(g) => told_by(g),
     }
 }
 

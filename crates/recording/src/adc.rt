@@ -29,13 +29,11 @@ pub(crate) fn make_adc(
     let bits = shared(a, b);
     let mut carry = first;
     let mut next = k;
-    let mut i: usize = 0;
-    while i < bits {
+    for i in 0..bits {
         outs[i] = put_sum(list, next, a[i], b[i], carry);
         carry = put_carry(list, next + 2, a[i], b[i], carry);
         next += 6;
-        i += 1;
     }
-    outs[i] = carry;
+    outs[bits] = carry;
     next - k
 }

@@ -7,10 +7,8 @@ pub(crate) fn make_buf(k: usize, a: &[u16], list: &mut [u8], outs: &mut [u16]) -
     requires { Room (made [] a.now) k list.old outs.old }
     ensures { recorded result list.new outs.new ≡ recorded_of (made [] a.now) k list.old outs.old }
 {
-    let mut i: usize = 0;
-    while i < a.len() {
+    for i in 0..a.len() {
         outs[i] = a[i];
-        i += 1;
     }
     0
 }

@@ -18,12 +18,10 @@ fn eq_bits(first: u16, k: usize, a: &[u16], b: &[u16], list: &mut [u8], outs: &m
     let bits = shared(a, b);
     let mut sum = first;
     let mut next = k;
-    let mut i: usize = 1;
-    while i < bits {
+    for i in 1..bits {
         let differs = put(list, next, 7, a[i], b[i]);
         sum = put(list, next + 1, 6, sum, differs);
         next += 2;
-        i += 1;
     }
     outs[0] = put(list, next, 4, sum, 0);
     next + 1 - k
@@ -90,14 +88,12 @@ pub(crate) fn make_less(
     let low = low_bits(kind, a, b);
     let mut carry = FIRST_CARRY;
     let mut next = k;
-    let mut i: usize = 0;
-    while i < low {
+    for i in 0..low {
         carry = put_below(list, next, a[i], b[i], carry);
         next += 5;
-        i += 1;
     }
-    if i < shared(a, b) {
-        outs[0] = put_top(list, next, a[i], b[i], carry);
+    if low < shared(a, b) {
+        outs[0] = put_top(list, next, a[low], b[low], carry);
         return next + 5 - k;
     }
     outs[0] = carry;

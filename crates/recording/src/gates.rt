@@ -10,11 +10,9 @@ pub(crate) fn make_not(k: usize, a: &[u16], list: &mut [u8], outs: &mut [u16]) -
     ensures { recorded result list.new outs.new ≡ recorded_of (not_made k a.now) k list.old outs.old }
 {
     let mut next = k;
-    let mut i: usize = 0;
-    while i < a.len() {
+    for i in 0..a.len() {
         outs[i] = put(list, next, 4, a[i], 0);
         next += 1;
-        i += 1;
     }
     next - k
 }
@@ -33,11 +31,9 @@ pub(crate) fn make_gate(
 {
     let n = shared(a, b);
     let mut next = k;
-    let mut i: usize = 0;
-    while i < n {
+    for i in 0..n {
         outs[i] = put(list, next, op, a[i], b[i]);
         next += 1;
-        i += 1;
     }
     next - k
 }

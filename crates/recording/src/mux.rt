@@ -33,11 +33,9 @@ fn mux_bits(
 {
     let bits = shared(a, b);
     let mut next = k;
-    let mut i: usize = 0;
-    while i < bits {
+    for i in 0..bits {
         outs[i] = put_chosen(list, next, s, n, x, a[i], b[i]);
         next += 4;
-        i += 1;
     }
     next - k
 }

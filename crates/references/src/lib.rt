@@ -36,11 +36,9 @@ fn put_more_references(room: &mut [u8], n: usize, members: &[u32], i: usize, end
     ensures { Wrote room.old n (more_references (up_to i end members.now)) room.new result }
 {
     let mut n = n;
-    let mut i = i;
-    while i < end {
+    for i in i..end {
         let m = put(room, n, 32);
         n = put_reference(room, m, members[i]);
-        i += 1;
     }
     n
 }

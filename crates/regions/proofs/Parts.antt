@@ -8,17 +8,17 @@ use lib.Seq.{take_all}
 use Rattle.ground.specs.Regions.{part}
 use Rattle.ground.proofs.Regions.{part_length}
 
-drop_none : (s : List ℕ) (k : ℕ) → length s ≤ k → drop k s ≡ []
+drop_none : {A : Type 0} (s : List A) (k : ℕ) → length s ≤ k → drop k s ≡ []
 drop_none [] zero h = refl
 drop_none [] (suc k) h = refl
 drop_none (x ∷ s) zero h = absurd (omega arith)
 drop_none (x ∷ s) (suc k) h = drop_none s k (omega arith)
 
-take_none : (n : ℕ) → take {A = ℕ} n [] ≡ []
+take_none : {A : Type 0} (n : ℕ) → take {A = A} n [] ≡ []
 take_none zero = refl
 take_none (suc n) = refl
 
-module _ (s : List ℕ) (from size : ℕ) where
+module _ {A : Type 0} (s : List A) (from size : ℕ) where
   -- past the end nothing is left
   pub part_past : length s < from → [] ≡ part from size s
   unfolding part

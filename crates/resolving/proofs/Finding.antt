@@ -1,8 +1,9 @@
 -- The search by the tables is rule 14's search over the text's pieces.
+use Rattle.std.specs.Prelude.{Option, Some, None}
 use mathlib.Core.Path.{◌≡◌, refl, sym, ap, ◌∙◌}
 use mathlib.Core.Bool.{Bool, true, false, not, ◌&&◌}
 use mathlib.Core.List.{List, [], ◌∷◌, ◌++◌, map}
-use mathlib.Core.Option.{Option, none, some}
+use mathlib.Core.Option.{Option as Found, none, some}
 use Prim.Native.Nat.{ℕ, zero, suc, ◌+◌, ◌-◌, ◌*◌, ◌<◌, ◌≤◌}
 use native.Mathlib.Nat.{add-zero}
 use native.Mathlib.Numerals.{add-one, sub-one}
@@ -30,8 +31,6 @@ use Rattle.saying.specs.Notes.{Maps, operand_word}
 use Rattle.laying.specs.Growing.{BaseIn, PartIn, PartsIn, none, more}
 use Rattle.laying.proofs.Inside.{operand_in}
 use Rattle.resolving.specs.Resolving.{Looks, resolves_in, base_lost, lost_at, lost_from, operand_of, lost_of}
-use Rattle.resolving.specs.declared.Lost.{Lost}
-use Rattle.resolving.specs.declared.Lost.TheVariants.{At, Nowhere}
 
 -- a row that is found is one of the rows
 pub row_most : (ns : List ℕ) (i row : ℕ) → 1 ≤ row → row_from ns i row < row + length ns
@@ -52,8 +51,8 @@ module _ (numbers widths numbered cells : List ℕ) (l : Looks numbers widths nu
       rw (s, l.width (row_of numbers p.cell - 1) m, lt-ltb (row_of numbers p.cell - 1) (length widths) m))
       (λ s. rw s))
 
-  base_found : (b : Base) (place : Place) (text : List ℕ) (rest : List PieceAt) (lost : Lost) → BaseIn text b → lost ≡ lost_at (first_unresolved numbers widths rest)
-      → elim (base_lost numbered cells b) as (λ _. Lost) [ true ↦ At place | false ↦ lost ] ≡ lost_at (first_unresolved numbers widths (base_pieces place b ++ rest))
+  base_found : (b : Base) (place : Place) (text : List ℕ) (rest : List PieceAt) (lost : Option Place) → BaseIn text b → lost ≡ lost_at (first_unresolved numbers widths rest)
+      → elim (base_lost numbered cells b) as (λ _. (Option Place)) [ true ↦ Some place | false ↦ lost ] ≡ lost_at (first_unresolved numbers widths (base_pieces place b ++ rest))
   unfolding first_unresolved
   base_found (base.Constant s) place text rest lost i e = e
   base_found (base.Cell p) place text rest lost i e =
@@ -84,31 +83,23 @@ first_append : (numbers widths : List ℕ) (ps qs : List PieceAt) → first_unre
 unfolding first_unresolved
 first_append numbers widths [] qs e = refl
 first_append numbers widths (p ∷ ps) qs e = bool_cases (unresolved numbers widths p)
-    (λ u. let z : ◌≡◌ {A = ℕ} 0 1 = sym (ap counted (rw (u, first_unresolved) at e)) in absurd (omega arith))
+    (λ u. let z = rw (u, first_unresolved) at e in cc)
     (λ u. rw (u, first_unresolved) (first_append numbers widths ps qs (rw (u, first_unresolved) at e)))
-  where
-    counted : Option Place → ℕ
-    counted none = 0
-    counted (some p) = 1
 
 first_stays : (numbers widths : List ℕ) (ps qs : List PieceAt) (k : Place) → first_unresolved numbers widths ps ≡ some k → first_unresolved numbers widths (ps ++ qs) ≡ some k
 unfolding first_unresolved
-first_stays numbers widths [] qs k e = let z : ◌≡◌ {A = ℕ} 0 1 = ap counted e in absurd (omega arith)
-  where
-    counted : Option Place → ℕ
-    counted none = 0
-    counted (some p) = 1
+first_stays numbers widths [] qs k e = cc
 first_stays numbers widths (p ∷ ps) qs k e = bool_cases (unresolved numbers widths p)
     (λ u. rw (u, first_unresolved) (rw (u, first_unresolved) at e))
     (λ u. rw (u, first_unresolved) (first_stays numbers widths ps qs k (rw (u, first_unresolved) at e)))
 
 -- how the search over words goes on
 module _ (text numbered cells : List ℕ) (n : ℕ) (places : List ℕ) where
-  pub lost_on : lost_from numbered cells (parts_at text (operand_of (get_or places 0 0))) ≡ Nowhere → lost_of text numbered cells (suc n) places ≡ lost_of text numbered cells n (drop 1 places)
+  pub lost_on : lost_from numbered cells (parts_at text (operand_of (get_or places 0 0))) ≡ None → lost_of text numbered cells (suc n) places ≡ lost_of text numbered cells n (drop 1 places)
   unfolding lost_of
   lost_on e = rw (e, lost_of)
 
-  pub lost_stop : (k : Place) → lost_from numbered cells (parts_at text (operand_of (get_or places 0 0))) ≡ At k → lost_of text numbered cells (suc n) places ≡ At k
+  pub lost_stop : (k : Place) → lost_from numbered cells (parts_at text (operand_of (get_or places 0 0))) ≡ Some k → lost_of text numbered cells (suc n) places ≡ Some k
   unfolding lost_of
   lost_stop k e = rw (e, lost_of)
 
@@ -119,7 +110,7 @@ module _ (numbers widths numbered cells : List ℕ) (l : Looks numbers widths nu
   words_found [] behind = refl
   words_found (o ∷ os) behind = go (first_unresolved numbers widths (operand_pieces text o)) refl (words_found os behind)
     where
-      go : (v : Option Place) → first_unresolved numbers widths (operand_pieces text o) ≡ v
+      go : (v : Found Place) → first_unresolved numbers widths (operand_pieces text o) ≡ v
           → lost_of text numbered cells (length os) (map operand_word os ++ behind) ≡ lost_at (first_unresolved numbers widths (joined (operand_pieces text) os))
           → lost_of text numbered cells (suc (length os)) (operand_word o ∷ (map operand_word os ++ behind)) ≡ lost_at (first_unresolved numbers widths (operand_pieces text o ++ joined (operand_pieces text) os))
       go none e ih =
@@ -137,7 +128,7 @@ module _ (numbers widths numbered cells : List ℕ) (l : Looks numbers widths nu
 
 -- how the search over the parts of a walk goes on
 module _ (numbered cells : List ℕ) (p : PartAt) (ps : List PartAt) where
-  pub part_stop : base_lost numbered cells (base_in p.part) ≡ true → lost_from numbered cells (p ∷ ps) ≡ At p.place
+  pub part_stop : base_lost numbered cells (base_in p.part) ≡ true → lost_from numbered cells (p ∷ ps) ≡ Some p.place
   unfolding lost_from
   part_stop e = rw (e, lost_from)
 
@@ -145,11 +136,11 @@ module _ (numbered cells : List ℕ) (p : PartAt) (ps : List PartAt) where
   unfolding lost_from
   part_on e = rw (e, lost_from)
 
-pub part_none : (numbered cells : List ℕ) → lost_from numbered cells [] ≡ Nowhere
+pub part_none : (numbered cells : List ℕ) → lost_from numbered cells [] ≡ None
 unfolding lost_from
 part_none numbered cells = refl
 
-pub word_none : (text numbered cells places : List ℕ) (n : ℕ) → n ≤ 0 → lost_of text numbered cells n places ≡ Nowhere
+pub word_none : (text numbered cells places : List ℕ) (n : ℕ) → n ≤ 0 → lost_of text numbered cells n places ≡ None
 unfolding lost_of
 word_none text numbered cells places zero h = refl
 word_none text numbered cells places (suc n) h = absurd (omega arith)
@@ -162,14 +153,14 @@ module _ (text numbered cells places : List ℕ) (n i : ℕ) (h : i < n) where
   first : get_or (drop i places) 0 0 ≡ get_or places i 0
   first = get_or-drop i places 0 0 ∙ ap (λ (k : ℕ). get_or places k 0) (add-zero i)
 
-  pub words_on : lost_from numbered cells (parts_at text (operand_of (get_or places i 0))) ≡ Nowhere
+  pub words_on : lost_from numbered cells (parts_at text (operand_of (get_or places i 0))) ≡ None
       → lost_of text numbered cells (n - (i + 1)) (drop (i + 1) places) ≡ lost_of text numbered cells (n - i) (drop i places)
   words_on e =
       ap (lost_of text numbered cells (n - (i + 1))) (sym (drop-drop 1 i places))
       ∙ sym (lost_on text numbered cells (n - (i + 1)) (drop i places) (ap (λ (w : ℕ). lost_from numbered cells (parts_at text (operand_of w))) first ∙ e))
       ∙ ap (λ (k : ℕ). lost_of text numbered cells k (drop i places)) (sym here)
 
-  pub words_stop : (k : Place) → lost_from numbered cells (parts_at text (operand_of (get_or places i 0))) ≡ At k → At k ≡ lost_of text numbered cells (n - i) (drop i places)
+  pub words_stop : (k : Place) → lost_from numbered cells (parts_at text (operand_of (get_or places i 0))) ≡ Some k → Some k ≡ lost_of text numbered cells (n - i) (drop i places)
   words_stop k e =
       sym (lost_stop text numbered cells (n - (i + 1)) (drop i places) k (ap (λ (w : ℕ). lost_from numbered cells (parts_at text (operand_of w))) first ∙ e))
       ∙ ap (λ (k : ℕ). lost_of text numbered cells k (drop i places)) (sym here)

@@ -1,6 +1,6 @@
 -- Resolving by the tables: the map of cell numbers, and the widths in the cell rows.
-use Rattle.std.specs.Prelude.{◌≡◌, ℕ, zero, suc, ◌+◌, ◌-◌, ◌*◌, ◌<◌, ◌≤◌, Bool, true, false, not, ◌&&◌, List, [], ◌∷◌, map, leb, ltb, eqb, length, drop, get_or}
-use Rattle.std.proofs.Math.Option.{Option, none, some}
+use Rattle.std.specs.Prelude.{◌≡◌, ℕ, zero, suc, ◌+◌, ◌-◌, ◌*◌, ◌<◌, ◌≤◌, Bool, true, false, not, ◌&&◌, List, [], ◌∷◌, map, leb, ltb, eqb, length, drop, get_or, Option, Some, None}
+use Rattle.std.proofs.Math.Option.{Option as Found, none, some}
 use Rattle.ground.specs.Choice.{pick}
 use Rattle.ground.specs.Lists.{every}
 use Rattle.ground.specs.Regions.{pad}
@@ -15,8 +15,6 @@ use Rattle.saying.specs.Values.{row_of, row_run}
 use Rattle.brackets.specs.Parts.{PartAt, parts_at}
 use Rattle.saying.specs.Pieces.{base_in}
 use Rattle.saying.specs.Notes.{Maps}
-use Rattle.resolving.specs.declared.Lost.{Lost}
-use Rattle.resolving.specs.declared.Lost.TheVariants.{At, Nowhere}
 
 -- NUMBERS TO ROWS
 abbrev pub row_word : List ℕ → ℕ → ℕ
@@ -69,23 +67,23 @@ abbrev pub base_lost : List ℕ → List ℕ → Base → Bool
 base_lost numbered cells (base.Constant s) = false
 base_lost numbered cells (base.Cell p) = not (resolves_in numbered cells p)
 
-abbrev pub lost_at : Option Place → Lost
-lost_at none = Nowhere
-lost_at (some p) = At p
+abbrev pub lost_at : Found Place → Option Place
+lost_at none = None
+lost_at (some p) = Some p
 
 -- the first part of a list that does not resolve
-unfoldable pub lost_from : List ℕ → List ℕ → List PartAt → Lost
-lost_from numbered cells [] = Nowhere
-lost_from numbered cells (p ∷ ps) = elim (base_lost numbered cells (base_in p.part)) [ true ↦ At p.place | false ↦ lost_from numbered cells ps ]
+unfoldable pub lost_from : List ℕ → List ℕ → List PartAt → Option Place
+lost_from numbered cells [] = None
+lost_from numbered cells (p ∷ ps) = elim (base_lost numbered cells (base_in p.part)) [ true ↦ Some p.place | false ↦ lost_from numbered cells ps ]
 
 -- the operand that a word of the work space tells
 abbrev pub operand_of : ℕ → Operand
 operand_of word = record { given = not (eqb word 0); at = word - 1; width = 0 }
 
 -- .. and over the operands that n words tell
-unfoldable pub lost_of : List ℕ → List ℕ → List ℕ → ℕ → List ℕ → Lost
-lost_of text numbered cells zero places = Nowhere
+unfoldable pub lost_of : List ℕ → List ℕ → List ℕ → ℕ → List ℕ → Option Place
+lost_of text numbered cells zero places = None
 lost_of text numbered cells (suc n) places = elim (lost_from numbered cells (parts_at text (operand_of (get_or places 0 0)))) [
-  | At p ↦ At p
-  | Nowhere ↦ lost_of text numbered cells n (drop 1 places)
+  | Some p ↦ Some p
+  | None ↦ lost_of text numbered cells n (drop 1 places)
 ]

@@ -7,17 +7,10 @@ ghost use Rattle.brackets.specs.Parts.{parts_at};
 ghost use Rattle.saying.specs.Pieces.{base_in};
 ghost use Rattle.resolving.specs.Resolving.{RunsNumbered, resolves_in, row_resolves, rows_resolve, base_lost, lost_from, operand_of, lost_of};
 
-use brackets::{Base, Operand, Part, Piece, Walked};
+use brackets::{Base, Operand, Part, Piece};
 use ground::Place;
 use walks::{operand_walk, walk_next};
 use words::word_at;
-
-// The place of the first piece that does not resolve.
-#[derive(Clone, Copy)]
-pub enum Lost {
-    At(Place),
-    Nowhere,
-}
 
 // Whether a piece resolves: its cell is declared, and it ends within the cell's width.
 fn resolves(map: &[u32], cells: &[u32], p: Piece) -> bool
@@ -54,12 +47,9 @@ pub fn runs_resolve(map: &[u32], cells: &[u32], runs: &[u32], n: usize) -> bool
     requires { RunsNumbered runs.now n }
     ensures { result ≡ rows_resolve map.now cells.now n runs.now }
 {
-    let mut i: usize = 0;
-    while i < n {
+    for i in 0..n {
         let k = i * 3;
-        if run_resolves(map, cells, runs[k], runs[k + 1], runs[k + 2]) {
-            i += 1;
-        } else {
+        if !run_resolves(map, cells, runs[k], runs[k + 1], runs[k + 2]) {
             return false;
         }
     }
@@ -81,31 +71,22 @@ fn is_lost(map: &[u32], cells: &[u32], base: Base) -> bool
 {
     match base {
         Base::Constant(_) => false,
-        Base::Cell(p) => {
-            if resolves(map, cells, p) {
-                return false;
-            }
-            true
-        }
+        Base::Cell(p) => !resolves(map, cells, p),
     }
 }
 
 // The first piece of an operand that does not resolve.
-fn lost_in(text: &[u8], operand: Operand, map: &[u32], cells: &[u32]) -> Lost
+fn lost_in(text: &[u8], operand: Operand, map: &[u32], cells: &[u32]) -> Option<Place>
     ensures { result ≡ lost_from map.now cells.now (parts_at text.now operand) }
 {
     let mut walk = operand_walk(text, operand);
-    loop {
-        let step = walk_next(text, walk);
-        let Walked::Part(part, place, next) = step else {
-            return Lost::Nowhere;
-        };
-        let base = base_of(part);
-        if is_lost(map, cells, base) {
-            return Lost::At(place);
+    while let Some((part, place, next)) = walk_next(text, walk) {
+        if is_lost(map, cells, base_of(part)) {
+            return Some(place);
         }
         walk = next;
     }
+    None
 }
 
 fn operand_of(word: u32) -> Operand
@@ -126,18 +107,20 @@ fn operand_of(word: u32) -> Operand
 }
 
 // The first piece that does not resolve, over the operands that the first n words of `places` tell.
-pub fn first_lost(text: &[u8], places: &[u32], n: usize, map: &[u32], cells: &[u32]) -> Lost
+pub fn first_lost(
+    text: &[u8],
+    places: &[u32],
+    n: usize,
+    map: &[u32],
+    cells: &[u32],
+) -> Option<Place>
     requires { n ≤ length places.now }
     ensures { result ≡ lost_of text.now map.now cells.now n places.now }
 {
-    let mut i: usize = 0;
-    while i < n {
-        let operand = operand_of(places[i]);
-        let lost = lost_in(text, operand, map, cells);
-        if let Lost::At(place) = lost {
-            return Lost::At(place);
+    for i in 0..n {
+        if let Some(place) = lost_in(text, operand_of(places[i]), map, cells) {
+            return Some(place);
         }
-        i += 1;
     }
-    Lost::Nowhere
+    None
 }

@@ -1,4 +1,5 @@
 -- THE WAY BACK: the canonical text of a valid netlist, read, says that netlist. So two valid netlists with one text are one netlist.
+use Rattle.std.specs.Prelude.{Ok, None}
 use Prim.Native.Nat.{ℕ, suc, ◌+◌, ◌-◌}
 use native.Mathlib.Omega.{arith}
 use mathlib.Core.Path.{◌≡◌, refl, sym, ap, ◌∙◌}
@@ -14,7 +15,6 @@ use Rattle.signs.specs.Bytes.{class_of, class_from}
 use Rattle.signs.specs.Pieces.{inside_end}
 use Rattle.lexis.specs.Tokens.{token_from, inside_at, follows}
 use Rattle.form.specs.Forms.{form_at, open_form}
-use Rattle.form.specs.declared.Form.TheVariants as form
 use Rattle.netlist.specs.Netlist.{Meta, Io, Cell, Netlist}
 use Rattle.netlist.specs.Rules.{valid, widths_of}
 use Rattle.netlist.proofs.Laying.{valid_roomy}
@@ -87,7 +87,7 @@ widths_numbered : (ns : List ℕ) (cs : List Cell) → widths_of (map (number_ce
 widths_numbered ns [] = refl
 widths_numbered ns (c ∷ cs) = ap (λ (ws : List ℕ). c.width ∷ ws) (widths_numbered ns cs)
 
-end_form : (text : List ℕ) (k : ℕ) → drop k text ≡ [] → form_at text k ≡ form.End
+end_form : (text : List ℕ) (k : ℕ) → drop k text ≡ [] → form_at text k ≡ Ok None
 unfolding form_at open_form
 end_form text k h = rw (end_back text k h)
 

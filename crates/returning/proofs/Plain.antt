@@ -1,4 +1,5 @@
 -- The canonical text is sound as a whole: plain bytes, the last a line feed.
+use Rattle.std.specs.Prelude.{Ok}
 use Prim.Native.Nat.{ℕ, zero, suc, ◌+◌, ◌-◌, ◌/◌, ◌%◌, ◌^◌, ◌<◌, ◌≤◌}
 use mathlib.Core.Path.{◌≡◌, refl}
 use mathlib.Core.Bool.{Bool, true, not, ◌&&◌}
@@ -12,7 +13,6 @@ use borrow.Author.Tests.{le-leb, lt-leb, leb-true, leb-false, le-ltb, eqb-false,
 use Rattle.ground.specs.Lists.{every}
 use Rattle.ground.proofs.Bools.{bool_cases, never_both, and_true, every_first, every_more}
 use Rattle.scanning.specs.Whole.{whole_of, bad_from, tail_of, sequences, ends_in_feed}
-use Rattle.scanning.specs.declared.Whole.TheVariants as whole
 use Rattle.writing.specs.Decimal.{digits}
 use Rattle.writing.proofs.Digits.{ten_pos}
 
@@ -88,7 +88,7 @@ plain_never_bad [] from k p = refl
 plain_never_bad (b ∷ s) from k p = let e = every_first plain_byte b s p in rw (plain_alone b e.0, bad_from) (plain_never_bad s k (k + 1) e.1)
 
 -- THE WHOLE TEXT IS SOUND where it is plain, ends in a line feed and is not too long
-pub fine_sound : {n : ℕ} (s : List ℕ) → length s ≤ 65536 → Fine n s → whole_of s ≡ whole.Sound
+pub fine_sound : {n : ℕ} (s : List ℕ) → length s ≤ 65536 → Fine n s → whole_of s ≡ Ok tt
 unfolding whole_of
 fine_sound s l f = rw (le-ltb 65536 (length s) l, plain_never_bad s 0 0 f.plain, f.feed)
 

@@ -1,4 +1,5 @@
 -- THE ROUND TRIP of tables: good tables, printed and read, are the same tables again, whole; two good tables with one text are the same.
+use Rattle.std.specs.Prelude.{Ok}
 use Prim.Native.Nat.{ℕ, zero, suc, ◌+◌, ◌≤◌}
 use native.Mathlib.Omega.{arith}
 use native.Mathlib.Nat.{zero-add, suc-add}
@@ -16,15 +17,12 @@ use Rattle.netlist.specs.Netlist.{Netlist}
 use Rattle.netlist.specs.Rules.{valid}
 use Rattle.netlist.specs.Tables.{Tables, layout, rows_of, bits_of, rows_length, strings_length, bits_length, tables_in}
 use Rattle.netlist.specs.Good.{laid, good, short, check_of, netlist_in}
-use Rattle.netlist.specs.declared.Checked.TheVariants as checked
 use Rattle.netlist.proofs.Laying.{Long, laid_is}
 use Rattle.checking.proofs.Top.{Enough, checked_good}
 use Rattle.declaring.specs.Reading.{reading}
 use Rattle.reading.specs.Outcome.{Outcome, left, read_of, made, work_length}
-use Rattle.reading.specs.declared.Read.TheVariants as read
 use Rattle.lines.specs.Lines.{canonical}
 use Rattle.printing.specs.Outcome.{print_of, written}
-use Rattle.printing.specs.declared.Printed.TheVariants as printed
 use Rattle.accepting.proofs.Good.{laid_good, laid_shown}
 use Rattle.returning.proofs.RoundTrip.{returns, one_text}
 
@@ -65,10 +63,10 @@ unfolding read_of
 read_left text rows strings bits work s w = rw (s, le-ltb (length work) work_length w)
 
 made_same : (n m k : ℕ) (x y z x' y' z' p q r w : List ℕ) → x ≡ x' → y ≡ y' → z ≡ z'
-    → made read.Accepted (over n x p) (over m y q) (over k z r) w ≡ made read.Accepted (over n x' p) (over m y' q) (over k z' r) w
+    → made (Ok tt) (over n x p) (over m y q) (over k z r) w ≡ made (Ok tt) (over n x' p) (over m y' q) (over k z' r) w
 made_same n m k x y z x' y' z' p q r w e f h = rw (e, f, h)
 
-made_whole : (x y z x' y' z' w : List ℕ) → x ≡ x' → y ≡ y' → z ≡ z' → made read.Accepted x y z w ≡ made read.Accepted x' y' z' w
+made_whole : (x y z x' y' z' w : List ℕ) → x ≡ x' → y ≡ y' → z ≡ z' → made (Ok tt) x y z w ≡ made (Ok tt) x' y' z' w
 made_whole x y z x' y' z' w e f h = rw (e, f, h)
 
 not_short : {rows strings bits : List ℕ} → Enough rows strings bits → short rows strings bits ≡ false
@@ -82,13 +80,13 @@ unfolding print_of
 laid_printed N v xs ys zs room = rw (laid_good N v xs ys zs, laid_shown N v xs ys zs)
 
 -- what stands in the room where a length is told
-told_text : (text room : List ℕ) (n : ℕ) → (written text room).answer ≡ printed.Length n → (n ≡ length text) × (take n (written text room).room ≡ text)
+told_text : (text room : List ℕ) (n : ℕ) → (written text room).answer ≡ Ok n → (n ≡ length text) × (take n (written text room).room ≡ text)
 unfolding written over
 told_text text room n e = bool_cases (ltb (length room) (length text))
     (λ s. let z : ◌≡◌ {A = ℕ} 0 1 = cc (rw s at e) in absurd (omega arith))
     (λ s. let m : length text ≡ n = cc (rw s at e) in (sym m, rw (s, ← m) (take-append_seam text (drop (length text) room))))
 
-module _ (rows strings bits : List ℕ) (g : check_of rows strings bits ≡ checked.Good) where
+module _ (rows strings bits : List ℕ) (g : check_of rows strings bits ≡ Ok tt) where
   abbrev T : Tables
   T = tables_in rows strings bits
 
@@ -137,7 +135,7 @@ module _ (rows strings bits : List ℕ) (g : check_of rows strings bits ≡ chec
   -- READ into any slices of the fixed lengths, the canonical text gives the tables back, every word and byte of them
   pub tables_return : (rows' strings' bits' work : List ℕ) → length (canonical N) ≤ 65536 → short rows' strings' bits' ≡ false → work_length ≤ length work
       → read_of (canonical N) rows' strings' bits' work
-      ≡ made read.Accepted (over rows_length (take rows_length rows) rows') (over strings_length (take strings_length strings) strings') (over bits_length (take bits_length bits) bits')
+      ≡ made (Ok tt) (over rows_length (take rows_length rows) rows') (over strings_length (take strings_length strings) strings') (over bits_length (take bits_length bits) bits')
       (over work_length (zeros work_length) work)
   tables_return rows' strings' bits' work l s w =
       read_left (canonical N) rows' strings' bits' work s w ∙ ap (left rows' strings' bits' work) (returns N shown_valid l)
@@ -145,15 +143,15 @@ module _ (rows strings bits : List ℕ) (g : check_of rows strings bits ≡ chec
 
   -- read into the tables themselves it changes nothing in them
   pub tables_stay : (work : List ℕ) → length (canonical N) ≤ 65536 → work_length ≤ length work
-      → read_of (canonical N) rows strings bits work ≡ made read.Accepted rows strings bits (over work_length (zeros work_length) work)
+      → read_of (canonical N) rows strings bits work ≡ made (Ok tt) rows strings bits (over work_length (zeros work_length) work)
   unfolding over
   tables_stay work l w =
       tables_return rows strings bits work l (not_short enough) w
       ∙ made_whole _ _ _ rows strings bits _ (take-append-drop rows_length rows) (take-append-drop strings_length strings) (take-append-drop bits_length bits)
 
   -- PRINTED with room enough, and what was printed read again
-  pub printed_return : (room work : List ℕ) (n : ℕ) → (print_of rows strings bits room).answer ≡ printed.Length n → n ≤ 65536 → work_length ≤ length work
-      → read_of (take n (print_of rows strings bits room).room) rows strings bits work ≡ made read.Accepted rows strings bits (over work_length (zeros work_length) work)
+  pub printed_return : (room work : List ℕ) (n : ℕ) → (print_of rows strings bits room).answer ≡ Ok n → n ≤ 65536 → work_length ≤ length work
+      → read_of (take n (print_of rows strings bits room).room) rows strings bits work ≡ made (Ok tt) rows strings bits (over work_length (zeros work_length) work)
   unfolding print_of
   printed_return room work n e l w =
       let t = told_text (canonical N) room n (rw g at e) in
@@ -168,7 +166,7 @@ module _ (rows strings bits : List ℕ) (g : check_of rows strings bits ≡ chec
       ∙ laid_printed N shown_valid (drop rows_length rows') (drop strings_length strings') (drop bits_length bits') room
 
 -- TWO GOOD TABLES WITH ONE TEXT are the same tables
-pub one_table : (rows strings bits rows' strings' bits' : List ℕ) → check_of rows strings bits ≡ checked.Good → check_of rows' strings' bits' ≡ checked.Good
+pub one_table : (rows strings bits rows' strings' bits' : List ℕ) → check_of rows strings bits ≡ Ok tt → check_of rows' strings' bits' ≡ Ok tt
     → canonical (netlist_in rows strings bits) ≡ canonical (netlist_in rows' strings' bits')
     → (take rows_length rows ≡ take rows_length rows') × (take strings_length strings ≡ take strings_length strings') × (take bits_length bits ≡ take bits_length bits')
 one_table rows strings bits rows' strings' bits' g h e =

@@ -22,11 +22,9 @@ pub fn row_runs(map: &[u32], runs: &mut [u32], n: usize)
     requires { RunsNumbered runs.old n }
     ensures { RowsRuns map.now n runs.old runs.new }
 {
-    let mut i: usize = 0;
-    while i < n {
+    for i in 0..n {
         let k = i * 3;
         let head = row_word(map, runs[k]);
         runs[k] = head;
-        i += 1;
     }
 }

@@ -1,4 +1,6 @@
 -- The ways out of a run: what the code leaves on each is what the definition says.
+use Rattle.ground.specs.declared.Refusal.{Refusal}
+use Rattle.std.specs.Prelude.{Result, Ok, Err}
 use mathlib.Core.Path.{◌≡◌, ap, ap₂, sym, ◌∙◌}
 use mathlib.Core.Bool.{true, false}
 use mathlib.Core.List.{List, [], ◌∷◌, ◌++◌}
@@ -17,8 +19,6 @@ use Rattle.ground.proofs.Lent.{over_all, over_front, over_zeros, sets_front}
 use Rattle.ground.proofs.Outcome.{any_two}
 use Rattle.ground.proofs.Regions.{length_zeros, length_pad}
 use Rattle.loadlist.specs.declared.Record.{Record}
-use Rattle.loadlist.specs.declared.Ran.{Ran}
-use Rattle.loadlist.specs.declared.Ran.TheVariants.{Outputs, Refused}
 use Rattle.loadlist.specs.Records.{records_in, input_op}
 use Rattle.loadlist.specs.Check.{record_count, records_with, records, bad_record}
 use Rattle.loadlist.specs.Run.{Outcome, made, slot_of, slots_from, outputs_in, slots, outputs, assigns, ran_from, run_of}
@@ -43,10 +43,10 @@ module _ {list work : List ℕ} {inputs answers : ℕ} (ins outs : List ℕ) (cl
   whole : (x : List ℕ) → over 8192 x work ≡ x
   whole x = let l : length work ≤ 8192 = rw (clear, length_zeros) (omega arith) in over_all 8192 x work l
 
-  pub unfit : assigns inputs ins ≡ false → made (Refused (refusal 23 (at 0))) outs work ≡ ran_from none list ins outs work
+  pub unfit : assigns inputs ins ≡ false → made (Err (refusal 23 (at 0))) outs work ≡ ran_from none list ins outs work
   unfit e =
       let f : assigns (records_with input_op (records list)) ins ≡ false = rw (← good.ins) e in
-      rw f (ap (λ (w : List ℕ). made (Refused (refusal 23 (at 0))) outs w) (clear ∙ sym (whole (zeros 8192))))
+      rw f (ap (λ (w : List ℕ). made (Err (refusal 23 (at 0))) outs w) (clear ∙ sym (whole (zeros 8192))))
 
   module _ (long : length ins ≡ inputs) (bits : trits ins ≡ true) where
     fit : assigns (records_with input_op (records list)) ins ≡ true
@@ -58,11 +58,11 @@ module _ {list work : List ℕ} {inputs answers : ℕ} (ins outs : List ℕ) (cl
     number : length (outputs list ins) ≡ answers
     number = outputs_number (records list) (slots list ins) long_slots ∙ sym good.outs
 
-    pub no_room : length outs < answers → made (Refused (refusal 24 (at 0))) outs work ≡ ran_from none list ins outs work
+    pub no_room : length outs < answers → made (Err (refusal 24 (at 0))) outs work ≡ ran_from none list ins outs work
     no_room h =
         let l : length outs < length (outputs list ins) = rw number h in
         rw (fit, lt-ltb (length outs) (length (outputs list ins)) l)
-        (ap (λ (w : List ℕ). made (Refused (refusal 24 (at 0))) outs w) (clear ∙ sym (whole (zeros 8192))))
+        (ap (λ (w : List ℕ). made (Err (refusal 24 (at 0))) outs w) (clear ∙ sym (whole (zeros 8192))))
 
     module _ {n : ℕ} (room : answers ≤ length outs) (count : n ≡ record_count list) where
       pub slots_room : n ≤ length work
@@ -91,21 +91,21 @@ module _ {list work : List ℕ} {inputs answers : ℕ} (ins outs : List ℕ) (cl
         pub answer_count : answers ≡ length (outputs_in (records_in n list) work')
         answer_count = sym (ap length answer_is ∙ number)
 
-        pub ran : {outs' : List ℕ} → outs' ≡ sets outs 0 (outputs_in (records_in n list) work') → made (Outputs answers) outs' work' ≡ ran_from none list ins outs work
+        pub ran : {outs' : List ℕ} → outs' ≡ sets outs 0 (outputs_in (records_in n list) work') → made (Ok answers) outs' work' ≡ ran_from none list ins outs work
         ran {outs'} e =
             let l : length (outputs list ins) ≤ length outs = rw number room in
             let o : outs' ≡ over (length (outputs list ins)) (outputs list ins) outs = e ∙ ap (λ (x : List ℕ). sets outs 0 x) answer_is ∙ sets_front outs (outputs list ins) l in
             let w : work' ≡ over 8192 (pad 8192 (slots list ins)) work = held ∙ sym (whole (pad 8192 (slots list ins))) in
             rw (fit, le-ltb (length outs) (length (outputs list ins)) l)
-            (ap (λ (m : ℕ). made (Outputs m) outs' work') (sym number) ∙ ap₂ (λ x y. made (Outputs (length (outputs list ins))) x y) o w)
+            (ap (λ (m : ℕ). made (Ok m) outs' work') (sym number) ∙ ap₂ (λ x y. made (Ok (length (outputs list ins))) x y) o w)
 
 -- the run in work space of its exact length
 module _ (list ins outs work : List ℕ) (long : length work ≡ 8192) where
   pub bad_way : {k : ℕ} {work' : List ℕ} → work' ≡ zeros (length work) → bad_record list ≡ some k
-      → made (Refused (refusal 22 (at k))) outs work' ≡ ran_from (bad_record list) list ins outs work
+      → made (Err (refusal 22 (at k))) outs work' ≡ ran_from (bad_record list) list ins outs work
   bad_way {k} {work'} c e =
       let w : work' ≡ over 8192 (zeros 8192) work = c ∙ ap zeros long ∙ sym (over_all 8192 (zeros 8192) work (omega arith)) in
-      rw e (ap (λ (x : List ℕ). made (Refused (refusal 22 (at k))) outs x) w)
+      rw e (ap (λ (x : List ℕ). made (Err (refusal 22 (at k))) outs x) w)
 
   pub good_way : {work' : List ℕ} {o : Outcome} → work' ≡ zeros 8192 → bad_record list ≡ none → o ≡ ran_from none list ins outs work'
       → o ≡ ran_from (bad_record list) list ins outs work
@@ -116,7 +116,7 @@ module _ (list ins outs work : List ℕ) (long : length work ≡ 8192) where
 
 -- the run in lent work space
 module _ (list ins outs work : List ℕ) where
-  pub short : length work < 8192 → made (Refused (refusal 1 (at 0))) outs work ≡ run_of list ins outs work
+  pub short : length work < 8192 → made (Err (refusal 1 (at 0))) outs work ≡ run_of list ins outs work
   unfolding run_of
   short h = rw (lt-ltb (length work) 8192 h)
 
@@ -132,7 +132,7 @@ module _ (list ins outs work : List ℕ) where
       (λ g. rw (f, g, over_front 8192 (pad 8192 (slots list ins)) work)))
       (λ f. rw (f, over_front 8192 (zeros 8192) work))
 
-  pub whole_way : {r : Ran} {outs' work' : List ℕ} → 8192 ≤ length work → made r outs' work' ≡ ran_from (bad_record list) list ins outs (take 8192 work)
+  pub whole_way : {r : Result ℕ Refusal} {outs' work' : List ℕ} → 8192 ≤ length work → made r outs' work' ≡ ran_from (bad_record list) list ins outs (take 8192 work)
       → made r outs' (work' ++ drop 8192 work) ≡ run_of list ins outs work
   unfolding run_of
   whole_way h e = rw (le-ltb (length work) 8192 h) (ap behind e ∙ fronted (bad_record list))
@@ -144,6 +144,6 @@ module _ (list ins outs work : List ℕ) where
   -- a good list, bits for its inputs and enough room: the outputs and the slots
   pub succeeds : bad_record list ≡ none → assigns (records_with input_op (records list)) ins ≡ true → length (outputs list ins) ≤ length outs → 8192 ≤ length work
       → run_of list ins outs work
-      ≡ made (Outputs (length (outputs list ins))) (over (length (outputs list ins)) (outputs list ins) outs) (over 8192 (pad 8192 (slots list ins)) work)
+      ≡ made (Ok (length (outputs list ins))) (over (length (outputs list ins)) (outputs list ins) outs) (over 8192 (pad 8192 (slots list ins)) work)
   unfolding run_of
   succeeds good fit room long = rw (le-ltb (length work) 8192 long, good, fit, le-ltb (length outs) (length (outputs list ins)) room)

@@ -6,12 +6,10 @@ ghost use Rattle.ground.specs.Lists.{every};
 pub(crate) fn all_trits(bits: &[u8]) -> bool
     ensures { result ≡ every (λ x. ltb x 3) bits.now }
 {
-    let mut i = 0;
-    while i < bits.len() {
+    for i in 0..bits.len() {
         if 3 <= bits[i] {
             return false;
         }
-        i += 1;
     }
     true
 }

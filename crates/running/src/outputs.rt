@@ -26,10 +26,11 @@ pub(crate) fn give_outputs(list: &[u8], work: &[u8], outs: &mut [u8], n: usize, 
     requires { (n ≤ length work.now) × (count ≤ length outs.old) × (count ≡ length (outputs_in (records_in n list.now) work.now)) }
     ensures { outs.new ≡ sets outs.old 0 (outputs_in (records_in n list.now) work.now) }
 {
-    let mut k = n;
     let mut at = count;
-    while 0 < at {
-        k -= 1;
+    for k in (0..n).rev() {
+        if at == 0 {
+            return;
+        }
         let r = record_at(list, k);
         at = give(r, work[k], outs, at);
     }

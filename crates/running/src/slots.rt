@@ -62,11 +62,9 @@ pub(crate) fn make_slots(list: &[u8], ins: &[u8], work: &mut [u8], n: usize)
     requires { n ≤ length work.old }
     ensures { work.new ≡ over n (slots_from (records_in n list.now) ins.now []) work.old }
 {
-    let mut k: usize = 0;
-    while k < n {
+    for k in 0..n {
         let r = record_at(list, k);
         let x = slot_of(r, ins, work, k);
         work[k] = x;
-        k += 1;
     }
 }

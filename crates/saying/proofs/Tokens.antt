@@ -1,5 +1,7 @@
 -- What tokens give. Document 01, Text: "Indices, offsets, widths, counts: at most 65,535"; a string means as many bytes as its size
 -- says, and a constant lies inside the text.
+use Rattle.lexis.specs.Took.{Took}
+use Rattle.std.specs.Prelude.{Ok, Err, Option, Some, None}
 use mathlib.Core.Path.{◌≡◌, refl}
 use mathlib.Core.Bool.{Bool, true, false, ◌||◌}
 use mathlib.Core.List.{List, [], ◌∷◌}
@@ -15,11 +17,7 @@ use Rattle.signs.specs.Bytes.{is_constant, is_letter, is_feed, is_special}
 use Rattle.signs.specs.Pieces.{span_end, digits_from, numeral_at, suffix_at, quoted_at, string_at, decoded}
 use Rattle.lexis.specs.Tokens.{refused, plain, judged, single, signed_of, opens_placeholder, follows, constant_of, cell_of, named_from, io_of, string_step, number_of, meta_of, word_of, long_of, token_from, token_at, inside_at, constant, cell, io, number, meta, string, placeholder}
 use Rattle.lexis.specs.declared.Token.{Token}
-use Rattle.lexis.specs.declared.Step.{Step}
-use Rattle.lexis.specs.declared.Step.TheVariants as step
 use Rattle.signs.specs.declared.pieces.Numeral.{Numeral}
-use Rattle.signs.specs.declared.pieces.Quoted.{Quoted}
-use Rattle.signs.specs.declared.pieces.Quoted.TheVariants.{Closed, Malformed}
 use Rattle.signs.proofs.Strings.{closed_size}
 use Rattle.brackets.specs.Words.{is_sort}
 use Rattle.signs.specs.declared.pieces.Suffix.{Suffix}
@@ -56,9 +54,9 @@ pub record SoundToken (text : List ℕ) (t : Token) : Type 0 where
   pub offset : t.offset < 65536
 
 -- the token that a step takes
-abbrev pub SoundStep : List ℕ → Step → Type 0
-SoundStep text (step.Refused g) = Nothing
-SoundStep text (step.Took t r) = SoundToken text t
+abbrev pub SoundStep : List ℕ → Took Token → Type 0
+SoundStep text (Err g) = Nothing
+SoundStep text (Ok (t, r)) = SoundToken text t
 
 -- a token of another sort
 other : (text : List ℕ) (t : Token) → indexes t ≡ false → spells t ≡ false → is_sort constant t ≡ false → t.offset ≡ 0 → SoundToken text t
@@ -69,10 +67,10 @@ indexed text t h g c o = record { index = λ p. h; string = λ p. never_both p g
 
 module _ (text : List ℕ) where
   -- a choice between two steps
-  either : (b : Bool) (x y : Step) → SoundStep text x → SoundStep text y → SoundStep text (pick b x y)
+  either : (b : Bool) (x y : Took Token) → SoundStep text x → SoundStep text y → SoundStep text (pick b x y)
   either b x y p q = picked (SoundStep text) b x y p q
 
-  judged_sound : (malformed large : Bool) (k : ℕ) (s : Step) → SoundStep text s → SoundStep text (judged malformed large k s)
+  judged_sound : (malformed large : Bool) (k : ℕ) (s : Took Token) → SoundStep text s → SoundStep text (judged malformed large k s)
   judged_sound m l k s n = either m (refused 5 k) (pick l (refused 6 k) s) refl (either l (refused 6 k) s refl n)
 
   single_sound : (sort k from : ℕ) (i : Numeral) (value end : ℕ) → SoundToken text (plain sort k value 0 0) → SoundStep text (single sort k from i value end)
@@ -96,13 +94,13 @@ module _ (text : List ℕ) where
       either (opens_placeholder text i.end) _ _ (single_sound placeholder k (k + 1) i i.value (i.end + 2) (other text _ refl refl refl refl))
       (judged_sound (eqb i.end (k + 1) || (o.broken || (w.broken || c.broken))) (i.large || (o.large || (w.large || c.large))) k _ (indexed text _ (numeral_most text (k + 1)) refl refl (suffix_most text 43 i.end)))
 
-  named_sound : (k : ℕ) (q : Quoted) → q ≡ quoted_at text (k + 2) → SoundStep text (named_from text k q)
+  named_sound : (k : ℕ) (q : Option (ℕ × ℕ)) → q ≡ quoted_at text (k + 2) → SoundStep text (named_from text k q)
   unfolding quoted_at
-  named_sound k (Closed n e) h =
+  named_sound k (Some (n, e)) h =
       let o = suffix_at text 43 e in
       let w = suffix_at text 58 e in
       judged_sound (o.broken || w.broken) (o.large || w.large) k _ (record { index = λ p. omega arith; string = λ p. closed_size (string_at text (k + 2)) n e h; inside = λ p. never_both p refl; offset = suffix_most text 43 e })
-  named_sound k Malformed h = refl
+  named_sound k None h = refl
 
   io_sound : (k : ℕ) → SoundStep text (io_of text k)
   unfolding io_of
@@ -119,10 +117,10 @@ module _ (text : List ℕ) where
       either (eqb (get_or text (k + 1) 0) 45) _ _ (single_sound number k (k + 2) m (signed_of true m.value) m.end (other text _ refl refl refl refl))
       (single_sound number k (k + 1) i (signed_of false i.value) i.end (other text _ refl refl refl refl))
 
-  string_sound : (k : ℕ) (q : Quoted) → q ≡ quoted_at text (k + 1) → SoundStep text (string_step k q)
+  string_sound : (k : ℕ) (q : Option (ℕ × ℕ)) → q ≡ quoted_at text (k + 1) → SoundStep text (string_step k q)
   unfolding quoted_at
-  string_sound k (Closed n e) h = record { index = λ p. never_both p refl; string = λ p. closed_size (string_at text (k + 1)) n e h; inside = λ p. never_both p refl; offset = omega arith }
-  string_sound k Malformed h = refl
+  string_sound k (Some (n, e)) h = record { index = λ p. never_both p refl; string = λ p. closed_size (string_at text (k + 1)) n e h; inside = λ p. never_both p refl; offset = omega arith }
+  string_sound k None h = refl
 
   long_sound : (k b : ℕ) → k ≤ length text → SoundStep text (long_of text k b)
   unfolding long_of word_of meta_of

@@ -1,4 +1,6 @@
 -- The whole text: which tail the bytes of a range begin, how the search for a bad sequence goes on, and the ways out.
+use Rattle.ground.specs.declared.Refusal.{Refusal}
+use Rattle.std.specs.Prelude.{Result, Ok, Err}
 use mathlib.Core.Path.{◌≡◌, refl, sym, ap, ap₂, ◌∙◌}
 use mathlib.Core.Bool.{Bool, true, false, ◌&&◌}
 use mathlib.Core.List.{List, [], ◌∷◌}
@@ -17,8 +19,6 @@ use Rattle.ground.specs.Regions.{zeros}
 use Rattle.signs.specs.Bytes.{Range}
 use Rattle.scanning.specs.Whole.{sequences, tail_of, lacks_past, began_at, bad_from, bad_at, ends_in_feed, unsound, whole_of}
 use Rattle.scanning.specs.Modes.{lack, lacking, meant}
-use Rattle.scanning.specs.declared.Whole.{Whole}
-use Rattle.scanning.specs.declared.Whole.TheVariants.{Sound, Unsound}
 
 -- equality of tails as a test, so that it can be computed over many bytes
 abbrev same_ranges : List Range → List Range → Bool
@@ -115,25 +115,25 @@ module _ (s : List ℕ) where
   whole_bad k h e = rw (le-ltb 65536 (length s) h, e)
 
   module _ (h : length s ≤ 65536) (e : bad_at s ≡ none) where
-    whole_end : (v : Bool) → ends_in_feed s ≡ v → whole_of s ≡ pick v Sound (unsound 4 (length s))
+    whole_end : (v : Bool) → ends_in_feed s ≡ v → whole_of s ≡ pick v (Ok tt) (unsound 4 (length s))
     unfolding whole_of
     whole_end v f = rw (le-ltb 65536 (length s) h, e, f)
 
     pub whole_empty : length s ≡ 0 → whole_of s ≡ unsound 4 0
     whole_empty f = whole_end false (empty_ends s f) ∙ ap (λ (k : ℕ). unsound 4 k) f
 
-    pub whole_fed : 0 < length s → get_or s (length s - 1) 0 ≡ 10 → whole_of s ≡ Sound
+    pub whole_fed : 0 < length s → get_or s (length s - 1) 0 ≡ 10 → whole_of s ≡ Ok tt
     whole_fed l f = whole_end true (ends_in s l ∙ eq-eqb _ _ f)
 
     pub whole_unfed : 0 < length s → (get_or s (length s - 1) 0 ≡ 10 → ⊥) → whole_of s ≡ unsound 4 (length s)
     whole_unfed l f = whole_end false (ends_in s l ∙ ne_eqb _ _ f)
 
-abbrev is_sound : Whole → ℕ
-is_sound Sound = 1
-is_sound (Unsound g) = 0
+abbrev is_sound : Result (Unit {0}) Refusal → ℕ
+is_sound (Ok tt) = 1
+is_sound (Err g) = 0
 
 -- a text that is sound as a whole is not too long
-pub sound_short : (s : List ℕ) → whole_of s ≡ Sound → length s ≤ 65536
+pub sound_short : (s : List ℕ) → whole_of s ≡ Ok tt → length s ≤ 65536
 sound_short s e = bool_cases (ltb 65536 (length s))
     (λ h. let z : ◌≡◌ {A = ℕ} 0 1 = ap is_sound (sym (whole_long s (ltb-true 65536 (length s) h)) ∙ e) in absurd (omega arith))
     (λ h. ltb-false 65536 (length s) h)

@@ -1,11 +1,10 @@
 -- The whole text: refusals 2, 3 and 4.
-use Rattle.std.specs.Prelude.{ℕ, ◌+◌, Bool, true, false, List, [], ◌∷◌, ltb, eqb, length}
+use Rattle.ground.specs.declared.Refusal.{Refusal}
+use Rattle.std.specs.Prelude.{ℕ, ◌+◌, Bool, true, false, List, [], ◌∷◌, ltb, eqb, length, Result, Ok, Err}
 use Rattle.std.proofs.Math.Option.{Option, none, some}
 use Rattle.ground.specs.Choice.{pick}
 use Rattle.signs.specs.Bytes.{Range, range, in_range}
 use Rattle.ground.specs.Refusals.{at, refusal}
-use Rattle.scanning.specs.declared.Whole.{Whole}
-use Rattle.scanning.specs.declared.Whole.TheVariants.{Sound, Unsound}
 
 -- a sequence: the range of its first byte, and the ranges of the bytes behind it
 pub record Sequence : Type 0 where
@@ -59,13 +58,13 @@ ends_in_feed (b ∷ []) = eqb b 10
 ends_in_feed (b ∷ c ∷ s) = ends_in_feed (c ∷ s)
 
 -- the refusal with its number and place
-abbrev pub unsound : ℕ → ℕ → Whole
-unsound n k = Unsound (refusal n (at k))
+abbrev pub unsound : ℕ → ℕ → Result (Unit {0}) Refusal
+unsound n k = Err (refusal n (at k))
 
-abbrev pub ending : List ℕ → Option ℕ → Whole
+abbrev pub ending : List ℕ → Option ℕ → Result (Unit {0}) Refusal
 ending s (some k) = unsound 3 k
-ending s none = pick (ends_in_feed s) Sound (unsound 4 (length s))
+ending s none = pick (ends_in_feed s) (Ok tt) (unsound 4 (length s))
 
 -- 2: "text too long", at 65,536; 3: "not UTF-8, or CR without LF", at the first bad sequence; 4: "empty, or the last byte is no LF", at the length
-unfoldable pub whole_of : List ℕ → Whole
+unfoldable pub whole_of : List ℕ → Result (Unit {0}) Refusal
 whole_of s = pick (ltb 65536 (length s)) (unsound 2 65536) (ending s (bad_at s))

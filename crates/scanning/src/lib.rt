@@ -5,10 +5,3 @@
 pub mod scan;
 
 use ground::Refusal;
-
-// The text as a whole: sound, or a refusal 2, 3 or 4 with its place.
-#[derive(Clone, Copy)]
-pub enum Whole {
-    Sound,
-    Unsound(Refusal),
-}

@@ -6,7 +6,6 @@ ghost use Rattle.scanning.specs.Whole.{sequences, tail_of, lacks_past, began_at,
 ghost use Rattle.scanning.specs.Modes.{lacking, meant};
 ghost use Rattle.scanning.specs.Plain.{Skips};
 
-use super::Whole;
 use ground::{Place, Refusal};
 
 // The mode past a first byte that is not ASCII.
@@ -131,10 +130,8 @@ fn odd_ahead(text: &[u8], i: usize) -> u8
     ensures { result ≡ 0 → Skips text.now [] i (i + 64) }
 {
     let mut count: u8 = 0;
-    let mut k: usize = 0;
-    while k < 64 {
+    for k in 0..64 {
         count += odd(text[i + k]);
-        k += 1;
     }
     count
 }
@@ -146,6 +143,7 @@ fn past_blocks(text: &[u8], start: usize) -> usize
 {
     let size = text.len();
     let mut i = start;
+    // By `while`: a step is 64 bytes, and the place where it ends is the answer.
     while 64 <= size - i {
         if odd_ahead(text, i) != 0 {
             return i;
@@ -163,6 +161,7 @@ fn past_bytes(text: &[u8], start: usize) -> usize
 {
     let size = text.len();
     let mut i = start;
+    // By `while`: the place where it ends is the answer, whether a byte ended it or the text; a `for` would tell that place twice.
     while i < size {
         let b = text[i];
         if b < 0x0e {
@@ -199,17 +198,17 @@ fn onward(text: &[u8], mode: u8, b: u8, i: usize) -> usize
     past_bytes(text, i)
 }
 
-fn refused(number: u8, at: usize) -> Whole
+fn refused(number: u8, at: usize) -> Result<(), Refusal>
     ensures { result ≡ unsound number at }
 {
-    Whole::Unsound(Refusal {
+    Err(Refusal {
         number,
         place: Place { at },
     })
 }
 
 // The text as a whole: sound, or the refusal 2, 3 or 4 with its place.
-pub fn whole(text: &[u8]) -> Whole
+pub fn whole(text: &[u8]) -> Result<(), Refusal>
     ensures { result ≡ whole_of text.now }
 {
     let size = text.len();
@@ -219,6 +218,7 @@ pub fn whole(text: &[u8]) -> Whole
     let mut mode: u8 = 0;
     let mut from: usize = 0;
     let mut i: usize = past_plain(text, 0);
+    // By `while`: a step is a byte or all plain bytes behind it.
     while i < size {
         let b = text[i];
         from = began(mode, from, i);
@@ -235,7 +235,7 @@ pub fn whole(text: &[u8]) -> Whole
         return refused(4, 0);
     }
     if text[size - 1] == 10 {
-        return Whole::Sound;
+        return Ok(());
     }
     refused(4, size)
 }

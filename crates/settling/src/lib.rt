@@ -77,11 +77,9 @@ pub fn settle_metas(text: &[u8], metas: &mut [u32], n: usize, strings: &mut [u8]
         members: 0,
         trits: 0,
     };
-    let mut i: usize = 0;
-    while i < n {
+    for i in 0..n {
         let k = i * 16;
         so = settle_meta(text, &mut metas[k..k + 16], strings, so);
-        i += 1;
     }
     so.strings
 }
@@ -102,11 +100,9 @@ pub fn settle_ios(text: &[u8], ios: &mut [u32], n: usize, strings: &mut [u8], fi
     ensures { SettlesIos text.now n first ios.old strings.old ios.new strings.new result }
 {
     let mut s = first;
-    let mut i: usize = 0;
-    while i < n {
+    for i in 0..n {
         let k = i * 3;
         s = settle_io(text, &mut ios[k..k + 3], strings, s);
-        i += 1;
     }
     s
 }
@@ -143,11 +139,9 @@ pub fn settle_cells(
         strings: first,
         runs: 0,
     };
-    let mut i: usize = 0;
-    while i < n {
+    for i in 0..n {
         let k = i * 9;
         so = settle_cell(text, &mut cells[k..k + 9], strings, so);
-        i += 1;
     }
     so.strings
 }

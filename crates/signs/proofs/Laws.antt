@@ -1,4 +1,5 @@
 -- How the definitions of the pieces go on at a byte of the text, and how they end.
+use Rattle.std.specs.Prelude.{Option, Some, None}
 use mathlib.Core.Path.{◌≡◌, refl, sym, ◌∙◌, ap}
 use mathlib.Core.Bool.{Bool, true, false, not, ◌&&◌}
 use mathlib.Core.List.{List, [], ◌∷◌}
@@ -14,8 +15,6 @@ use Rattle.ground.proofs.Bools.{bool_cases}
 use Rattle.ground.proofs.Rest.{rest_cons, rest_end, past_zero}
 use Rattle.signs.specs.Bytes.{class_of, within, is_feed, is_digit, is_hex, is_raw, hex_of}
 use Rattle.signs.specs.Pieces.{span_end, comment_end, inside_move, inside_end, digits_from, grown_past, limited, Str, whole, broken, prefixed, string_from, sized, quoted_at, taken_at}
-use Rattle.signs.specs.declared.pieces.Quoted.{Quoted}
-use Rattle.signs.specs.declared.pieces.Quoted.TheVariants.{Closed, Malformed}
 
 -- a byte that is not 0 stands in the text
 pub in_text : (s : List ℕ) (i : ℕ) → 0 < get_or s i 0 → i < length s
@@ -93,17 +92,17 @@ module _ (limit : ℕ) (s : List ℕ) (n i : ℕ) where
   numeral_end h = rw (rest_end s i h)
 
 -- a string of n bytes and then what is left
-abbrev counted : ℕ → Quoted → Quoted
-counted n (Closed m e) = Closed (n + m) e
-counted n Malformed = Malformed
+abbrev counted : ℕ → Option (ℕ × ℕ) → Option (ℕ × ℕ)
+counted n (Some (m, e)) = Some (n + m, e)
+counted n None = None
 
-counted_none : (q : Quoted) → counted 0 q ≡ q
-counted_none (Closed m e) = rw zero-add
-counted_none Malformed = refl
+counted_none : (q : Option (ℕ × ℕ)) → counted 0 q ≡ q
+counted_none (Some (m, e)) = rw zero-add
+counted_none None = refl
 
-counted_more : (n : ℕ) (q : Quoted) → counted n (counted 1 q) ≡ counted (n + 1) q
-counted_more n (Closed m e) = rw add_assoc
-counted_more n Malformed = refl
+counted_more : (n : ℕ) (q : Option (ℕ × ℕ)) → counted n (counted 1 q) ≡ counted (n + 1) q
+counted_more n (Some (m, e)) = rw add_assoc
+counted_more n None = refl
 
 sized_more : (b : ℕ) (q : Str) → sized (prefixed b q) ≡ counted 1 (sized q)
 sized_more b (whole bs e) = let n : suc (length bs) ≡ 1 + length bs = omega arith in rw n
@@ -151,7 +150,7 @@ module _ (s : List ℕ) (i : ℕ) (h : i < length s) where
 
   -- the next byte of a string takes n bytes of the text
   next : (n : ℕ) → eqb (get_or s i 0) 34 ≡ false → n ≡ taken_at s i
-      → sized (string_from (drop i s) 0 i) ≡ pick (eqb n 0) Malformed (counted 1 (sized (string_from (drop (i + n) s) 0 (i + n))))
+      → sized (string_from (drop i s) 0 i) ≡ pick (eqb n 0) None (counted 1 (sized (string_from (drop (i + n) s) 0 (i + n))))
   next n o t = bool_cases (eqb (get_or s i 0) 92)
       (λ e. bool_cases (is_hex (get_or s (i + 1) 0) && is_hex (get_or s (i + 2) 0))
       (λ p. rw (t, e, p) (ap sized (string_escape true o e p) ∙ sized_more (hex_of (get_or s (i + 1) 0) * 16 + hex_of (get_or s (i + 2) 0)) (string_from (drop (i + 3) s) 0 (i + 3))))
@@ -161,23 +160,23 @@ module _ (s : List ℕ) (i : ℕ) (h : i < length s) where
       (λ p. rw (t, e, p) (ap sized (string_raw false o e p))))
 
 -- the string of which m bytes are read, and what is left of it stands at the place i
-unfoldable pub quoted_from : ℕ → List ℕ → ℕ → Quoted
+unfoldable pub quoted_from : ℕ → List ℕ → ℕ → Option (ℕ × ℕ)
 quoted_from m s i = counted m (sized (string_from (drop i s) 0 i))
 
 pub quoted_start : (s : List ℕ) (i : ℕ) → quoted_from 0 s i ≡ quoted_at s i
 unfolding quoted_from quoted_at
 quoted_start s i = counted_none (sized (string_from (drop i s) 0 i))
 
-pub quoted_end : (m : ℕ) (s : List ℕ) (i : ℕ) → length s ≤ i → quoted_from m s i ≡ Malformed
+pub quoted_end : (m : ℕ) (s : List ℕ) (i : ℕ) → length s ≤ i → quoted_from m s i ≡ None
 unfolding quoted_from
 quoted_end m s i h = rw (string_past s 0 i h)
 
 module _ (m : ℕ) (s : List ℕ) (i : ℕ) (h : i < length s) where
-  pub quoted_close : eqb (get_or s i 0) 34 ≡ true → quoted_from m s i ≡ Closed m (i + 1)
+  pub quoted_close : eqb (get_or s i 0) 34 ≡ true → quoted_from m s i ≡ Some (m, i + 1)
   unfolding quoted_from
   quoted_close o = rw (string_close s i h o, add-zero)
 
-  pub quoted_stop : (n : ℕ) → eqb (get_or s i 0) 34 ≡ false → n ≡ taken_at s i → eqb n 0 ≡ true → quoted_from m s i ≡ Malformed
+  pub quoted_stop : (n : ℕ) → eqb (get_or s i 0) 34 ≡ false → n ≡ taken_at s i → eqb n 0 ≡ true → quoted_from m s i ≡ None
   unfolding quoted_from
   quoted_stop n o t z = rw (next s i h n o t, z)
 

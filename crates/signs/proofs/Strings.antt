@@ -1,5 +1,7 @@
 -- Strings: what a byte of a string that means one more stands for, and the values of hexadecimal digits.
+use Rattle.std.specs.Prelude.{Some, None}
 use Prim.Native.Nat.{ℕ, ◌+◌, ◌-◌, ◌*◌, ◌<◌, ◌≤◌}
+use Rattle.ground.proofs.Pairs.{some_first}
 use mathlib.Core.Path.{◌≡◌, refl, ap, ◌∙◌}
 use mathlib.Core.Bool.{Bool, true, false, not, ◌&&◌, ◌||◌}
 use mathlib.Core.List.{List, [], ◌∷◌}
@@ -17,7 +19,6 @@ use Rattle.signs.specs.Bytes.{class_from, class_of, is_hex, is_raw, hex_of}
 use Rattle.signs.specs.Pieces.{Str, whole, broken, prefixed, string_from, string_at, bytes_in, decoded, sized}
 use Rattle.signs.specs.Decoding.{meant_at}
 use Rattle.signs.specs.declared.pieces.Meant.{Meant}
-use Rattle.signs.specs.declared.pieces.Quoted.TheVariants.{Closed, Malformed}
 use Rattle.signs.proofs.Laws.{string_close, string_escape, string_raw}
 
 -- a hexadecimal digit below 58 is `0` to `9`, and one from there on `a` to `f`
@@ -108,11 +109,11 @@ module _ (s : List ℕ) (i : ℕ) (h : 0 < length (decoded s i)) where
       (λ q. rw (e, ← raw_next (eqb-false _ 92 q)) (raw_meant (eqb-false _ 92 q)))
 
 -- how many bytes a string means is its size, and none where it is malformed
-pub closed_size : (x : Str) (n e : ℕ) → Closed n e ≡ sized x → n ≡ length (bytes_in x)
-closed_size (whole bs k) n e h = cc
+pub closed_size : (x : Str) (n e : ℕ) → Some (n, e) ≡ sized x → n ≡ length (bytes_in x)
+closed_size (whole bs k) n e h = some_first h
 closed_size broken n e h = let z : ◌≡◌ {A = ℕ} 0 1 = cc in absurd (omega arith)
 
-pub malformed_size : (x : Str) → Malformed ≡ sized x → 0 ≡ length (bytes_in x)
+pub malformed_size : (x : Str) → None ≡ sized x → 0 ≡ length (bytes_in x)
 malformed_size (whole bs k) h = let z : ◌≡◌ {A = ℕ} 0 1 = cc in absurd (omega arith)
 malformed_size broken h = refl
 

@@ -1,12 +1,10 @@
 -- What tokens are made of: spans of one kind of byte, digits, the parts `+` `:` `*`, strings.
 -- Each definition takes the rest of the text and the place at which that rest begins.
-use Rattle.std.specs.Prelude.{ℕ, zero, suc, ◌+◌, ◌-◌, ◌*◌, Bool, true, false, not, ◌&&◌, List, [], ◌∷◌, ltb, eqb, drop, get_or, length}
+use Rattle.std.specs.Prelude.{ℕ, zero, suc, ◌+◌, ◌-◌, ◌*◌, Bool, true, false, not, ◌&&◌, List, [], ◌∷◌, ltb, eqb, drop, get_or, length, Option, Some, None}
 use Rattle.ground.specs.Choice.{pick}
 use Rattle.signs.specs.Bytes.{class_of, is_feed, is_digit, is_hex, is_raw, hex_of, within}
 use Rattle.signs.specs.declared.pieces.Numeral.{Numeral}
 use Rattle.signs.specs.declared.pieces.Suffix.{Suffix}
-use Rattle.signs.specs.declared.pieces.Quoted.{Quoted}
-use Rattle.signs.specs.declared.pieces.Quoted.TheVariants.{Closed, Malformed}
 
 -- the place past the bytes that pass the test
 unfoldable pub span_end : (ℕ → Bool) → List ℕ → ℕ → ℕ
@@ -106,11 +104,11 @@ abbrev pub decoded : List ℕ → ℕ → List ℕ
 decoded text k = bytes_in (string_at text k)
 
 -- a string by its size: how many bytes it means, and the place past it
-abbrev pub sized : Str → Quoted
-sized (whole bs e) = Closed (length bs) e
-sized broken = Malformed
+abbrev pub sized : Str → Option (ℕ × ℕ)
+sized (whole bs e) = Some (length bs, e)
+sized broken = None
 
-unfoldable pub quoted_at : List ℕ → ℕ → Quoted
+unfoldable pub quoted_at : List ℕ → ℕ → Option (ℕ × ℕ)
 quoted_at text k = sized (string_at text k)
 
 -- how many bytes of the text one byte of a string takes, where the string goes on there: 3 an escape, 1 a raw byte, 0 for an escape or a

@@ -14,11 +14,11 @@ const CLASS: [u8; 256] = [
     0, 0, 0, 0, 0, 0, 0, 0, 0, 0, 0, 0, 0, 0, 0, 0,
 ];
 
-// The table, to lend to the functions that ask for it.
-pub fn classes() -> [u8; 256]
-    ensures { result ≡ table }
-{
-    CLASS
+// The class of each byte, to lend to the functions that ask for it.
+#[derive(Drop)]
+pub struct Classes {
+    of: [u8; 256],
+    ghost right: { of ≡ table },
 }
 
 fn wide(b: u8) -> usize
@@ -27,9 +27,14 @@ fn wide(b: u8) -> usize
     b as usize
 }
 
-pub fn class_at(t: &[u8; 256], b: u8) -> u8
-    requires { t.now ≡ table }
-    ensures { result ≡ class_of b }
-{
-    t[wide(b)]
+impl Classes {
+    pub fn new() -> Self {
+        Classes { of: CLASS }
+    }
+
+    pub fn class_at(&self, b: u8) -> u8
+        ensures { result ≡ class_of b }
+    {
+        self.of[wide(b)]
+    }
 }

@@ -3,18 +3,18 @@
 #![tactic(auto)]
 
 ghost use Rattle.std.specs.Prelude.{◌≡◌, true, false, ◌+◌, ◌<◌, ◌≤◌, eqb, length, drop};
-ghost use Rattle.signs.specs.Bytes.{table, among};
+ghost use Rattle.signs.specs.Bytes.{among};
 ghost use Rattle.signs.specs.Pieces.{span_end, comment_end, inside_move, inside_end};
 
-use signs::classes::class_at;
+use signs::classes::Classes;
 use signs::pieces::{between, in_classes};
 
 // The place past the bytes of a range of classes.
-pub fn span(t: &[u8; 256], text: &[u8], at: usize, low: u8, high: u8) -> usize
-    requires { t.now ≡ table }
+pub fn span(t: &Classes, text: &[u8], at: usize, low: u8, high: u8) -> usize
     ensures { (result ≡ span_end (among low high) (drop at text.now) at) × (at ≤ result) }
 {
     let mut i = at;
+    // By `while`: the place where it ends is the answer, whether a byte ended it or the text; a `for` would tell that place twice.
     while i < text.len() {
         let b = text[i];
         if in_classes(t, low, high, b) {
@@ -27,14 +27,15 @@ pub fn span(t: &[u8; 256], text: &[u8], at: usize, low: u8, high: u8) -> usize
 }
 
 // The place past the line feed that ends a comment.
-pub fn comment_end(t: &[u8; 256], text: &[u8], at: usize) -> usize
-    requires { (t.now ≡ table) × (at ≤ length text.now) }
+pub fn comment_end(t: &Classes, text: &[u8], at: usize) -> usize
+    requires { at ≤ length text.now }
     ensures { result ≡ comment_end (drop at text.now) at }
 {
     let mut i = at;
+    // By `while`: the place where it ends is the answer, whether a byte ended it or the text; a `for` would tell that place twice.
     while i < text.len() {
         let b = text[i];
-        if class_at(t, b) == 2 {
+        if t.class_at(b) == 2 {
             return i + 1;
         }
         i += 1;
@@ -63,14 +64,14 @@ fn inside_move(noted: bool, c: u8) -> u8
 
 // The line feed that ends a comment, or the end of the text. Most bytes that are passed between brackets stand in comments, so these
 // have a loop of their own.
-fn comment_past(t: &[u8; 256], text: &[u8], at: usize) -> usize
-    requires { t.now ≡ table }
+fn comment_past(t: &Classes, text: &[u8], at: usize) -> usize
     ensures { (inside_end (drop result text.now) false result ≡ inside_end (drop at text.now) true at) × (at ≤ result) }
 {
     let mut i = at;
+    // By `while`: the place where it ends is the answer, whether a byte ended it or the text; a `for` would tell that place twice.
     while i < text.len() {
         let b = text[i];
-        let m = inside_move(true, class_at(t, b));
+        let m = inside_move(true, t.class_at(b));
         if m == 1 {
             return i;
         }
@@ -80,8 +81,7 @@ fn comment_past(t: &[u8; 256], text: &[u8], at: usize) -> usize
 }
 
 // Behind a byte that makes the move m: a comment is passed.
-fn behind_move(t: &[u8; 256], text: &[u8], m: u8, at: usize) -> usize
-    requires { t.now ≡ table }
+fn behind_move(t: &Classes, text: &[u8], m: u8, at: usize) -> usize
     ensures { (inside_end (drop result text.now) false result ≡ inside_end (drop at text.now) (eqb m 2) at) × (at ≤ result) }
 {
     if m == 2 {
@@ -91,14 +91,14 @@ fn behind_move(t: &[u8; 256], text: &[u8], m: u8, at: usize) -> usize
 }
 
 // The place of the next token between brackets.
-pub fn inside_end(t: &[u8; 256], text: &[u8], at: usize) -> usize
-    requires { t.now ≡ table }
+pub fn inside_end(t: &Classes, text: &[u8], at: usize) -> usize
     ensures { result ≡ inside_end (drop at text.now) false at }
 {
     let mut i = at;
+    // By `while`: a step is a byte or a whole comment.
     while i < text.len() {
         let b = text[i];
-        let m = inside_move(false, class_at(t, b));
+        let m = inside_move(false, t.class_at(b));
         if m == 0 {
             return i;
         }

@@ -3,13 +3,13 @@
 #![tactic(auto)]
 
 ghost use Rattle.std.specs.Prelude.{◌≡◌, ◌<◌, length};
-ghost use Rattle.signs.specs.Bytes.{table};
 ghost use Rattle.signs.specs.Pieces.{suffix_at};
-ghost use Rattle.lexis.specs.Tokens.{meta_of, cell_of, part_or, no_spot, spot_of, spot_at, no_link, link_of, link_at, byte_end};
+ghost use Rattle.lexis.specs.Tokens.{meta_of, cell_of, part_or, no_spot, spot_of, spot_at, link_of, link_at, byte_end};
 
 use lexis::tokens::adjoins;
 use lexis::{Link, Reader, Spot};
 use numerals::numeral_at;
+use signs::classes::Classes;
 use signs::pieces::{Numeral, byte_at};
 use spans::{inside_end, span};
 
@@ -27,6 +27,7 @@ fn no_spot(closed: bool) -> Spot
 }
 
 // The part behind a mark, or a value where it is not written; `large` also where its digits are missing.
+#[tactic(auto, unfolding(signs::specs::Pieces::suffix_at))]
 fn part_or(text: &[u8], mark: u8, at: usize, value: u32) -> Numeral
     requires { 0 < mark }
     ensures { result ≡ part_or value (suffix_at text.now mark at) }
@@ -88,19 +89,9 @@ fn cell_spot(text: &[u8], k: usize) -> Spot
     }
 }
 
-fn no_link() -> Link
-    ensures { result ≡ no_link }
-{
-    Link {
-        found: false,
-        index: 0,
-        at: 0,
-        end: 0,
-    }
-}
-
 // The reference at a place.
-fn meta_link(text: &[u8], k: usize) -> Link
+#[tactic(auto, unfolding(lexis::specs::Tokens::meta_of))]
+fn meta_link(text: &[u8], k: usize) -> Option<Link>
     requires { k < length text.now }
     ensures { result ≡ link_of (meta_of text.now k) }
 {
@@ -108,22 +99,21 @@ fn meta_link(text: &[u8], k: usize) -> Link
     let i = numeral_at(text, from, 65535);
     let end = i.end;
     if end == from {
-        return no_link();
+        return None;
     }
     if i.large {
-        return no_link();
+        return None;
     }
-    Link {
-        found: true,
+    Some(Link {
         index: i.value,
         at: k,
         end,
-    }
+    })
 }
 
 // The next cell identifier between brackets by its numbers: a token of each piece costs more than the laying of it.
-pub fn spot_with(t: &[u8; 256], text: &[u8], reader: Reader) -> Spot
-    requires { t.now ≡ table }
+#[tactic(auto, unfolding(lexis::specs::Tokens::spot_at))]
+pub fn spot_with(t: &Classes, text: &[u8], reader: Reader) -> Spot
     ensures { result ≡ spot_at text.now reader.next.at }
 {
     let from = reader.next.at;
@@ -139,8 +129,8 @@ pub fn spot_with(t: &[u8; 256], text: &[u8], reader: Reader) -> Spot
 }
 
 // The next reference between brackets by its index: members of sets are read three times, and a token of each costs more.
-pub fn link_with(t: &[u8; 256], text: &[u8], reader: Reader) -> Link
-    requires { t.now ≡ table }
+#[tactic(auto, unfolding(lexis::specs::Tokens::link_at))]
+pub fn link_with(t: &Classes, text: &[u8], reader: Reader) -> Option<Link>
     ensures { result ≡ link_at text.now reader.next.at }
 {
     let from = reader.next.at;
@@ -148,16 +138,17 @@ pub fn link_with(t: &[u8; 256], text: &[u8], reader: Reader) -> Link
     let b = byte_at(text, k);
     if b == 33 {
         if adjoins(t, text, k) {
-            return no_link();
+            return None;
         }
         return meta_link(text, k);
     }
-    no_link()
+    None
 }
 
 // The place past the byte b where that is the next one after white space; 0 where it is not.
-pub fn byte_with(t: &[u8; 256], text: &[u8], reader: Reader, b: u8) -> usize
-    requires { (t.now ≡ table) × (0 < b) }
+#[tactic(auto, unfolding(lexis::specs::Tokens::byte_end))]
+pub fn byte_with(t: &Classes, text: &[u8], reader: Reader, b: u8) -> usize
+    requires { 0 < b }
     ensures { result ≡ byte_end text.now b reader.next.at }
 {
     let from = reader.next.at;

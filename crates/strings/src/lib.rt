@@ -3,17 +3,16 @@
 #![tactic(auto)]
 
 ghost use Rattle.std.specs.Prelude.{◌≡◌, true, ◌&&◌, ◌+◌, ◌<◌, ◌≤◌, length, get_or};
-ghost use Rattle.signs.specs.Bytes.{table, is_hex, is_raw};
+ghost use Rattle.signs.specs.Bytes.{is_hex, is_raw};
 ghost use Rattle.signs.specs.Pieces.{taken_at, quoted_at};
 
-use signs::classes::class_at;
-use signs::pieces::{Quoted, between, byte_at};
+use signs::classes::Classes;
+use signs::pieces::{between, byte_at};
 
-fn is_hex(t: &[u8; 256], b: u8) -> bool
-    requires { t.now ≡ table }
+fn is_hex(t: &Classes, b: u8) -> bool
     ensures { result ≡ is_hex b }
 {
-    let c = class_at(t, b);
+    let c = t.class_at(b);
     if between(4, 5, c) {
         return true;
     }
@@ -21,11 +20,10 @@ fn is_hex(t: &[u8; 256], b: u8) -> bool
 }
 
 // A byte that stands for itself in a string.
-fn is_raw(t: &[u8; 256], b: u8) -> bool
-    requires { t.now ≡ table }
+fn is_raw(t: &Classes, b: u8) -> bool
     ensures { result ≡ is_raw b }
 {
-    let c = class_at(t, b);
+    let c = t.class_at(b);
     if between(1, 3, c) {
         return b == 32;
     }
@@ -36,8 +34,8 @@ fn is_raw(t: &[u8; 256], b: u8) -> bool
 }
 
 // Two hexadecimal digits behind a place.
-fn escapes(t: &[u8; 256], text: &[u8], at: usize) -> bool
-    requires { (t.now ≡ table) × (at < length text.now) }
+fn escapes(t: &Classes, text: &[u8], at: usize) -> bool
+    requires { at < length text.now }
     ensures { result ≡ is_hex (get_or text.now (at + 1) 0) && is_hex (get_or text.now (at + 2) 0) }
 {
     if is_hex(t, byte_at(text, at + 1)) {
@@ -48,8 +46,8 @@ fn escapes(t: &[u8; 256], text: &[u8], at: usize) -> bool
 
 // How many bytes of the text one byte of a string takes, where the string goes on there: 3 an escape, 1 a raw byte, 0 for an escape or a
 // byte that is malformed. It looks at this one alone, and is not asked at the closing `"`.
-fn taken(t: &[u8; 256], text: &[u8], at: usize) -> usize
-    requires { (t.now ≡ table) × (at < length text.now) }
+fn taken(t: &Classes, text: &[u8], at: usize) -> usize
+    requires { at < length text.now }
     ensures { (result ≡ taken_at text.now at) × (result ≤ 3) }
 {
     let b = text[at];
@@ -66,23 +64,23 @@ fn taken(t: &[u8; 256], text: &[u8], at: usize) -> usize
 }
 
 // The string whose first byte stands at a place, by its size.
-pub fn quoted_at(t: &[u8; 256], text: &[u8], at: usize) -> Quoted
-    requires { t.now ≡ table }
+pub fn quoted_at(t: &Classes, text: &[u8], at: usize) -> Option<(usize, usize)>
     ensures { result ≡ quoted_at text.now at }
 {
     let mut size: usize = 0;
     let mut i = at;
+    // By `while`: a byte of a string takes one byte of the text or three.
     while i < text.len() {
         let b = text[i];
         if b == 34 {
-            return Quoted::Closed { size, end: i + 1 };
+            return Some((size, i + 1));
         }
         let n = taken(t, text, i);
         if n == 0 {
-            return Quoted::Malformed;
+            return None;
         }
         size += 1;
         i += n;
     }
-    Quoted::Malformed
+    None
 }

@@ -31,14 +31,12 @@ fn same_string(text: &[u8], a: usize, b: usize, size: usize) -> bool
     requires { (size ≡ length (decoded text.now a)) × (size ≡ length (decoded text.now b)) }
     ensures { result ≡ same (decoded text.now a) (decoded text.now b) }
 {
-    let mut left = size;
     let mut i = a;
     let mut j = b;
-    while 0 < left {
+    for _done in 0..size {
         if same_raw(text, i, j) {
             i += 1;
             j += 1;
-            left -= 1;
             continue;
         }
         let x = next_byte(text, i);
@@ -48,7 +46,6 @@ fn same_string(text: &[u8], a: usize, b: usize, size: usize) -> bool
         }
         i = x.end;
         j = y.end;
-        left -= 1;
     }
     true
 }
@@ -82,12 +79,10 @@ fn io_found(text: &[u8], ios: &[u32], n: usize, from: usize, size: usize) -> boo
     requires { IosNoted text.now ios.now n × (size ≡ length (decoded text.now from)) }
     ensures { (ns : List IoNote) → ios.now ≡ pad 192 (joined io_note ns) → n ≡ length ns → SpellIos text.now ns → result ≡ taken (decoded text.now from) (io_names (ios_said ns)) }
 {
-    let mut i = 0;
-    while i < n {
+    for i in 0..n {
         if io_named(text, ios, i, from, size) {
             return true;
         }
-        i += 1;
     }
     false
 }
@@ -124,6 +119,7 @@ fn next_of_kind(cells: &[u32], row: usize, n: usize, kind: u8) -> usize
 {
     let mut i = row;
     let mut at = row * 9;
+    // By `while`: the row and its place go on together, and the row where it ends is the answer.
     while i < n {
         if cells[at] == (kind as u32) {
             return i;
@@ -140,6 +136,7 @@ fn cell_found(text: &[u8], cells: &[u32], n: usize, kind: u8, from: usize, size:
     ensures { (ns : List CellNote) → cells.now ≡ pad 4608 (joined cell_note ns) → n ≡ length ns → SpellCells text.now ns → result ≡ taken (decoded text.now from) (names_as kind (cells_said ns)) }
 {
     let mut i = next_of_kind(cells, 0, n, kind);
+    // By `while`: a step goes to the next cell of the kind.
     while i < n {
         if cell_named(text, cells, i, kind, from, size) {
             return true;

@@ -1,12 +1,14 @@
 -- How the bits that letters say are put into a room, one after the other.
-use mathlib.Core.Path.{◌≡◌, refl, sym, ap, subst, ◌∙◌}
+use mathlib.Core.Path.{◌≡◌, refl, sym, ap, ◌∙◌}
 use mathlib.Core.List.{List, [], ◌∷◌}
 use Prim.Native.Nat.{ℕ, suc, ◌+◌, ◌≤◌, ◌<◌, min}
-use native.Mathlib.Nat.{min-eq_left, min-eq_right}
 use native.Mathlib.Numerals.{add-one}
 use native.Mathlib.Omega.{arith}
+use lib.Dec.{ltb}
 use lib.ListN.{length, get_or, drop, set}
 use lib.Seq.{sets, set_out}
+use borrow.Author.Tests.{ltb-true, ltb-false}
+use Rattle.ground.proofs.Bools.{bool_cases}
 use Rattle.ground.proofs.Rest.{rest_cons, rest_end}
 use Rattle.telling.specs.Bits.{bit_of, bits_of}
 
@@ -30,15 +32,7 @@ pub bits_more : (letters room told : List ℕ) (i b : ℕ) → i < length letter
 bits_more letters room told i b h e p = rw e (sym (bits_go letters room i h) ∙ p)
 
 -- all letters are said, or the room is full
-pub bits_all : (letters room told : List ℕ) (i : ℕ) → length letters ≤ i → sets room i (bits_of (drop i letters)) ≡ told → room ≡ told
-bits_all letters room told i h p = sym (bits_end letters room i h) ∙ p
-
-pub bits_stop : (letters room told : List ℕ) (i : ℕ) → length room ≤ i → sets room i (bits_of (drop i letters)) ≡ told → room ≡ told
-bits_stop letters room told i h p = sym (bits_full (bits_of (drop i letters)) room i h) ∙ p
-
--- their number
-pub count_all : (m n i : ℕ) → i ≤ m → m ≤ i → i ≤ n → i ≡ min m n
-count_all m n i a b c = let e : i ≡ m = omega arith in e ∙ sym (min-eq_left (subst (λ (k : ℕ). k ≤ n) e c))
-
-pub count_stop : (m n k i : ℕ) → k ≡ n → i ≤ n → k ≤ i → i < m → i ≡ min m n
-count_stop m n k i e a b c = let d : i ≡ n = omega arith in let l : n ≤ m = omega arith in d ∙ sym (min-eq_right l)
+pub bits_done : (letters room told : List ℕ) (i : ℕ) → min (length letters) (length room) ≤ i → sets room i (bits_of (drop i letters)) ≡ told → room ≡ told
+bits_done letters room told i h p = bool_cases (ltb (length room) (length letters))
+    (λ e. let l = ltb-true (length room) (length letters) e in sym (bits_full (bits_of (drop i letters)) room i (omega arith)) ∙ p)
+    (λ e. let l = ltb-false (length room) (length letters) e in sym (bits_end letters room i (omega arith)) ∙ p)

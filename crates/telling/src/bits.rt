@@ -7,39 +7,24 @@ use std::io;
 use std::io::Write;
 
 // A letter that says no bit gives 3, which every evaluation and run refuses (23).
+#[tactic(auto, unfolding(crate::specs::Bits::bit_of))]
 fn bit_of(letter: u8) -> u8
     ensures { result ≡ bit_of letter }
 {
-    if letter == 48 {
-        return 0;
+    match letter {
+        b'0' => 0,
+        b'1' => 1,
+        b'X' => 2,
+        _ => 3,
     }
-    if letter == 49 {
-        return 1;
-    }
-    if letter == 88 {
-        return 2;
-    }
-    3
 }
 
 fn letter_of(bit: u8) -> u8 {
-    if bit == 0 {
-        return 48;
+    match bit {
+        0 => b'0',
+        1 => b'1',
+        _ => b'X',
     }
-    if bit == 1 {
-        return 49;
-    }
-    88
-}
-
-// The byte so many places behind another, and 0 past the end.
-fn byte_behind(bytes: &[u8], at: usize, k: usize) -> u8 {
-    if at < bytes.len() {
-        if k < bytes.len() - at {
-            return bytes[at + k];
-        }
-    }
-    0
 }
 
 // The bits that letters say, as many as there is room for; their number.
@@ -48,36 +33,29 @@ pub fn put_bits(letters: &[u8], room: &mut [u8]) -> usize
     ensures value { result ≡ min (length letters.now) (length room.old) }
     ensures room_after { room.new ≡ sets room.old 0 (bits_of letters.now) }
 {
-    let mut i: usize = 0;
-    while i < letters.len() {
-        if room.len() <= i {
-            return i;
-        }
+    let n = letters.len().min(room.len());
+    for i in 0..n {
         room[i] = bit_of(letters[i]);
-        i += 1;
     }
-    i
+    n
 }
 
-// The letters of n bits from a place on, as many as there is room for; their number.
+// The letters of n bits from a place on, as many as there is room for; their number. A bit past the end is told as 0.
 fn put_letters(bits: &[u8], at: usize, n: usize, room: &mut [u8]) -> usize
     ensures { result ≤ length room.old }
 {
-    let mut i: usize = 0;
-    while i < n {
-        if room.len() <= i {
-            return i;
-        }
-        room[i] = letter_of(byte_behind(bits, at, i));
-        i += 1;
+    let told = n.min(room.len());
+    let mut left = bits.iter().skip(at);
+    for letter in room[..told].iter_mut() {
+        *letter = left.next().map_or(b'0', |bit| letter_of(*bit));
     }
-    i
+    told
 }
 
 // A line of the letters of n bits from a place on. No netlist and no list has more than 8,192 output bits.
 pub fn tell_bits<W: Write>(to: &mut W, bits: &[u8], at: usize, n: usize) -> io::Result<()> {
     let mut line = [0u8; 8192];
     let k = put_letters(bits, at, n, &mut line);
-    to.write_all(&line[0..k])?;
+    to.write_all(&line[..k])?;
     to.write_all(b"\n")
 }

@@ -6,8 +6,5 @@ use std::io;
 use std::io::Write;
 
 pub fn tell_refused<W: Write>(to: &mut W, r: Refusal) -> io::Result<()> {
-    let number = r.number;
-    let place = r.place;
-    let at = place.at;
-    write!(to, "refused {number} at {at}")
+    write!(to, "refused {} at {}", r.number, r.place.at)
 }

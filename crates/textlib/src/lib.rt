@@ -3,15 +3,13 @@
 #![tactic(auto)]
 
 ghost use Rattle.std.specs.Prelude.{◌≡◌, ◌+◌, ◌≤◌, length};
-ghost use Rattle.signs.specs.Bytes.{table};
 ghost use Rattle.scanning.specs.Whole.{whole_of};
-ghost use Rattle.textlib.specs.Told.{told_of, told, counted, refused_at, moved_by, tokens_from, tokens_of};
+ghost use Rattle.textlib.specs.Told.{told_of, told, refused_at, answer_of, moved_by, tokens_from, tokens_of};
 
 use ground::{Place, Refusal};
-use lexis::{Reader, Step};
-use scanning::Whole;
+use lexis::{Reader, Token, Took};
 use scanning::scan::whole;
-use signs::classes::classes;
+use signs::classes::Classes;
 
 // A refusal number with its place; 0 and 0 where nothing is refused.
 #[repr(C)]
@@ -30,24 +28,6 @@ pub struct Counted {
     pub place: u64,
 }
 
-// What a token does to a count: on to a place, the text's end, or a refusal.
-#[derive(Clone, Copy)]
-pub enum Moved {
-    On(usize),
-    Ended,
-    Stopped(Refusal),
-}
-
-fn counted_to(tokens: u64) -> Counted
-    ensures { result ≡ counted tokens }
-{
-    Counted {
-        tokens,
-        number: 0,
-        place: 0,
-    }
-}
-
 fn refused_at(g: Refusal) -> Counted
     ensures { result ≡ refused_at g }
 {
@@ -58,45 +38,45 @@ fn refused_at(g: Refusal) -> Counted
     }
 }
 
-fn moved_by(step: Step) -> Moved
+fn moved_by(step: Took<Token>) -> Result<Option<usize>, Refusal>
     ensures { result ≡ moved_by step }
 {
-    match step {
-        Step::Refused(g) => Moved::Stopped(g),
-        Step::Took(token, reader) => {
-            if token.sort == 1 {
-                return Moved::Ended;
-            }
-            let at = reader.next.at;
-            Moved::On(at)
-        }
+    let (token, reader) = step?;
+    if token.sort == 1 {
+        return Ok(None);
     }
+    let at = reader.next.at;
+    Ok(Some(at))
 }
 
-fn count_from(t: &[u8; 256], text: &[u8]) -> Counted
-    requires { (t.now ≡ table) × (length text.now ≤ 65536) }
-    ensures { result ≡ tokens_from (length text.now + 1) text.now 0 0 }
+// How many tokens there are up to the end of the text, or the first refusal. Each token takes a byte at least.
+fn count_from(t: &Classes, text: &[u8]) -> Result<u64, Refusal>
+    requires { length text.now ≤ 65536 }
+    ensures { answer_of result ≡ tokens_from (length text.now + 1) text.now 0 0 }
 {
-    let mut left = text.len() + 1;
-    let mut tokens: u64 = 0;
     let mut at: usize = 0;
-    while 0 < left {
+    for tokens in 0..text.len() + 1 {
         let reader = Reader { next: Place { at } };
-        match moved_by(reader.next_with(t, text)) {
-            Moved::Stopped(g) => {
-                return refused_at(g);
+        match moved_by(reader.next_with(t, text))? {
+            None => {
+                return Ok(tokens as u64);
             }
-            Moved::Ended => {
-                return counted_to(tokens);
-            }
-            Moved::On(k) => {
+            Some(k) => {
                 at = k;
             }
         }
-        tokens += 1;
-        left -= 1;
     }
-    counted_to(tokens)
+    Ok(text.len() as u64 + 1)
+}
+
+// The same of a text that need not be sound as a whole.
+#[tactic(auto, unfolding(crate::specs::Told::tokens_of))]
+fn count(text: &[u8]) -> Result<u64, Refusal>
+    ensures { answer_of result ≡ tokens_of text.now }
+{
+    whole(text)?;
+    let t = Classes::new();
+    count_from(&t, text)
 }
 
 // Nothing is refused.
@@ -121,8 +101,8 @@ pub fn grackle_whole(text: &[u8]) -> Told
     ensures { result ≡ told (whole_of text.now) }
 {
     match whole(text) {
-        Whole::Sound => accepted(),
-        Whole::Unsound(g) => told_by(g),
+        Ok(()) => accepted(),
+        Err(g) => told_by(g),
     }
 }
 
@@ -130,11 +110,12 @@ pub fn grackle_whole(text: &[u8]) -> Told
 pub fn grackle_tokens(text: &[u8]) -> Counted
     ensures { result ≡ tokens_of text.now }
 {
-    match whole(text) {
-        Whole::Unsound(g) => refused_at(g),
-        Whole::Sound => {
-            let t = classes();
-            count_from(&t, text)
-        }
+    match count(text) {
+        Ok(tokens) => Counted {
+            tokens,
+            number: 0,
+            place: 0,
+        },
+        Err(g) => refused_at(g),
     }
 }

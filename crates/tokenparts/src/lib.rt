@@ -8,7 +8,7 @@ ghost use Rattle.brackets.specs.Parts.{is_part, str, base_of, part_of, ref};
 
 use brackets::{Base, Part, Piece, Ref, Str};
 use ground::Place;
-use lexis::{Reader, Step, Token};
+use lexis::{Reader, Token, Took};
 
 // The place before a place; before the first there is none, and 0 is told.
 fn place_before(end: usize) -> usize
@@ -21,7 +21,7 @@ fn place_before(end: usize) -> usize
 }
 
 // The special character before a place, as it is taken.
-pub fn mark_before(b: u8, end: usize) -> Step
+pub fn mark_before(b: u8, end: usize) -> Took<Token>
     ensures { result ≡ took (plain 2 (end - 1) b 0 0) end }
 {
     let at = place_before(end);
@@ -37,7 +37,7 @@ pub fn mark_before(b: u8, end: usize) -> Step
         count: 0,
     };
     let next = Place { at: end };
-    Step::Took(token, Reader { next })
+    Ok((token, Reader { next }))
 }
 
 // A constant or a cell piece, each alone or repeated.

@@ -1,4 +1,5 @@
 -- Cell identifiers back: the number, and the parts that are printed behind it.
+use Rattle.lexis.specs.Took.{Took}
 use Prim.Native.Nat.{ℕ, ◌+◌, ◌≤◌}
 use mathlib.Core.Path.{◌≡◌, refl}
 use mathlib.Core.Bool.{Bool, true, false, not}

@@ -1,4 +1,5 @@
 -- Constants back: the characters of printed trits, and the trits that they mean.
+use Rattle.lexis.specs.Took.{Took}
 use Prim.Native.Nat.{ℕ, ◌+◌, ◌-◌}
 use mathlib.Core.Path.{◌≡◌, refl, ap, ap₂}
 use mathlib.Core.Bool.{Bool, true, false, ◌&&◌}

@@ -1,4 +1,5 @@
 -- Where reading stands in a printed text, what a token there leaves, and what a printed line says again.
+use Rattle.std.specs.Prelude.{Ok, Some}
 use Prim.Native.Nat.{ℕ}
 use mathlib.Core.Path.{◌≡◌}
 use mathlib.Core.Bool.{Bool, false, ◌||◌}
@@ -11,7 +12,6 @@ use Rattle.lexis.specs.Tokens.{follows, token_at, inside_at, took}
 use Rattle.lexis.specs.declared.Token.{Token}
 use Rattle.form.specs.Forms.{form_at}
 use Rattle.form.specs.declared.Decl.{Decl}
-use Rattle.form.specs.declared.Form.TheVariants as form
 
 -- s is left at the place k, and a token may begin there
 pub record Stands (text : List ℕ) (k : ℕ) (s : List ℕ) : Type 0 where
@@ -43,7 +43,7 @@ pub record Declares (text : List ℕ) (k index : ℕ) (says : Decl → Type 0) (
   pub decl : Decl
   pub place : Place
   pub end : ℕ
-  pub form : form_at text k ≡ form.Took (record { place = place; index = index; decl = decl }) (record { next = at end })
+  pub form : form_at text k ≡ Ok (Some (record { place = place; index = index; decl = decl }, record { next = at end }))
   pub after : Stands text end s
   pub said : says decl
 

@@ -3,14 +3,13 @@
 #![tactic(auto)]
 
 ghost use Rattle.std.specs.Prelude.{◌≡◌, ◌<◌};
-ghost use Rattle.signs.specs.Bytes.{table};
 ghost use Rattle.brackets.specs.Walks.{tour_at, tour_on, tour_step};
 
-use brackets::{Membered, Members, Tour, Toured};
+use brackets::{Membered, Members, Ref, Tour};
 use ground::Place;
-use lexis::Reader;
+use lexis::{Reader, Took};
 use sets::next_member;
-use signs::classes::classes;
+use signs::classes::Classes;
 
 // The walk over the members of a set.
 pub fn tour_of(text: &[u8], members: Members) -> Tour
@@ -23,37 +22,37 @@ pub fn tour_of(text: &[u8], members: Members) -> Tour
     }
 }
 
-fn tour_on(left: usize, found: Membered) -> Toured
+fn tour_on(left: usize, found: Took<Membered>) -> Option<(Ref, Tour)>
     requires { 0 < left }
     ensures { result ≡ tour_on left found }
 {
-    match found {
-        Membered::Took(m, next) => {
+    let (what, next) = found.ok()?;
+    match what {
+        Membered::Took(m) => {
             let left = left - 1;
-            Toured::Member(m, Tour { next, left })
+            Some((m, Tour { next, left }))
         }
-        Membered::Other(_, _) => Toured::Done,
-        Membered::Refused(_) => Toured::Done,
+        Membered::Other(_) => None,
     }
 }
 
 // The next member of the walk, with a lent table.
-pub fn tour_step(t: &[u8; 256], text: &[u8], tour: Tour) -> Toured
-    requires { t.now ≡ table }
+#[tactic(auto, unfolding(brackets::specs::Walks::tour_step))]
+pub fn tour_step(t: &Classes, text: &[u8], tour: Tour) -> Option<(Ref, Tour)>
     ensures { result ≡ tour_step text.now tour }
 {
     let left = tour.left;
     let next = tour.next;
     if left == 0 {
-        return Toured::Done;
+        return None;
     }
     tour_on(left, next_member(t, text, next))
 }
 
 // The next member of the walk, for callers who have no table.
-pub fn tour_next(text: &[u8], tour: Tour) -> Toured
+pub fn tour_next(text: &[u8], tour: Tour) -> Option<(Ref, Tour)>
     ensures { result ≡ tour_step text.now tour }
 {
-    let t = classes();
+    let t = Classes::new();
     tour_step(&t, text, tour)
 }

@@ -2,7 +2,7 @@
 use mathlib.Core.Path.{◌≡◌, refl, ap, ap₂, ◌∙◌, sym, subst}
 use mathlib.Core.Bool.{Bool, true, false, ◌||◌}
 use mathlib.Core.List.{List, [], ◌∷◌, ◌++◌}
-use Prim.Native.Nat.{ℕ, zero, suc, ◌+◌, ◌<◌, ◌≤◌}
+use Prim.Native.Nat.{ℕ, zero, suc, ◌+◌, ◌<◌}
 use native.Mathlib.Omega.{arith}
 use native.Mathlib.Decide.{ℕ_discrete}
 use lib.Dec.{eqb}
@@ -11,7 +11,7 @@ use borrow.Author.Tests.{eqb-true}
 use Rattle.ground.specs.Choice.{pick}
 use Rattle.ground.specs.Lists.{total, joined, up_from, updated}
 use Rattle.ground.proofs.Bools.{bool_cases, never_both, or_false}
-use Rattle.graph.specs.Graph.{ready, place, order}
+use Rattle.graph.specs.Graph.{place, order}
 use Rattle.graph.specs.Placing.{Placing, done, step}
 use Rattle.graph.proofs.Ready.{place_same, place_other, place_keeps, ready_unplaced}
 use Rattle.graph.proofs.Order.{order_placing, placing_marks}
@@ -26,7 +26,7 @@ use Rattle.cells.proofs.Linking.{length_bits}
 use Rattle.cells.proofs.Counts.{kind_makes}
 use Rattle.placing.specs.Placing.{no_cell, cell_at, reads_of, input_width, input_bits, output_from, outputs_from, apart, placing_of, ringed}
 use Rattle.placing.proofs.Sound.{valid_cell}
-use Rattle.translating.specs.Translation.{Slots, constants, input_records, input_slots, cell_made, cell_records, output_records, slots_of, translation, cell_sum, record_sum}
+use Rattle.translating.specs.Translation.{Slots, input_records, input_slots, cell_made, cell_records, output_records, slots_of, translation, cell_sum, record_sum}
 
 -- SUMS over rows below n
 pub upto : (ℕ → ℕ) → ℕ → ℕ

@@ -1,17 +1,14 @@
 -- The two ends of a translation: constants and inputs before the cells, outputs behind them.
 use mathlib.Core.Path.{◌≡◌, refl, ap, ap₂, ◌∙◌, sym, subst}
-use mathlib.Core.Bool.{Bool, true, false, ◌&&◌, ◌||◌}
+use mathlib.Core.Bool.{true, false, ◌||◌}
 use mathlib.Core.Logic.{⊎_elim}
 use mathlib.Core.List.{List, [], ◌∷◌, ◌++◌, append_assoc, append-nil}
 use Prim.Native.Nat.{ℕ, zero, suc, ◌+◌, ◌<◌, ◌≤◌}
 use native.Mathlib.Omega.{arith}
-use native.Mathlib.Nat.{add-zero}
-use native.Mathlib.Numerals.{add-one}
 use native.Mathlib.Decide.{dec_lt}
 use lib.Dec.{eqb, ltb}
-use lib.ListN.{length, get_or, take, drop, length-append, drop_of_length-le, get_or-eq_default}
+use lib.ListN.{length, get_or, take, drop, drop_of_length-le, get_or-eq_default}
 use borrow.Author.Tests.{eqb-true, ltb-true}
-use Rattle.ground.specs.Choice.{pick}
 use Rattle.ground.specs.Lists.{every, total, joined, up_from}
 use Rattle.ground.specs.Regions.{part}
 use Rattle.ground.proofs.Bools.{bool_cases, and_true, never_both, or_true, every_first}
@@ -19,16 +16,12 @@ use Rattle.ground.proofs.Rest.{rest_cons}
 use Rattle.trit.specs.Trit.{Trits}
 use Rattle.kinds.specs.Kinds.{input_kind, output_kind}
 use Rattle.netlist.specs.Netlist.{Cell, Netlist}
-use Rattle.loadlist.specs.Records.{rec, input_op, output_op}
-use Rattle.loadlist.specs.Run.{slot_of, slots_from, assigns}
-use Rattle.loadlist.specs.declared.Record.{Record}
-use Rattle.cells.specs.Operands.{bits_from}
-use Rattle.cells.proofs.Running.{at, reads_of as values_in, Early, old, new, reads_old, early_old, reads_append, early_append}
+use Rattle.loadlist.specs.Run.{slots_from, assigns}
+use Rattle.cells.proofs.Running.{at, reads_of as values_in, Early, old, new, reads_append, early_append}
 use Rattle.cells.proofs.Linking.{Constants, Linked, RunsAsk, operand_early, operand_held}
-use Rattle.placing.specs.Placing.{no_cell, cell_at, input_width, input_start, input_bits, output_from, outputs_from, apart}
-use Rattle.evaluating.specs.Settled.{rule_of}
+use Rattle.placing.specs.Placing.{no_cell, cell_at, input_width, input_start, input_bits, output_from, apart}
 use Rattle.evaluating.specs.Evaluation.{assigned}
-use Rattle.translating.specs.Translation.{Slots, constants, input_records, input_slots, output_records}
+use Rattle.translating.specs.Translation.{input_records, input_slots, output_records}
 use Rattle.translating.proofs.Placed.{Held}
 
 -- INPUTS: their records add the input bits

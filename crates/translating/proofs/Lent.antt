@@ -1,15 +1,16 @@
 -- Lent tables that were checked, cut into their regions.
-use mathlib.Core.Path.{◌≡◌, sym, ap, ap₂, ◌∙◌}
+use Rattle.ground.specs.declared.Refusal.{Refusal}
+use Rattle.std.specs.Prelude.{Result, Ok}
+use mathlib.Core.Path.{◌≡◌, ap, ap₂, ◌∙◌}
 use mathlib.Core.Bool.{true}
 use mathlib.Core.List.{List}
-use Prim.Native.Nat.{ℕ, ◌+◌, ◌≤◌}
+use Prim.Native.Nat.{ℕ, ◌+◌}
 use native.Mathlib.Omega.{arith}
-use lib.ListN.{length, take, drop, get_or, length-take, length-drop}
+use lib.ListN.{take, drop, get_or, length-take, length-drop}
 use Rattle.ground.specs.Regions.{part}
 use Rattle.netlist.specs.Netlist.{Run}
 use Rattle.netlist.specs.Tables.{Tables, tables_in}
 use Rattle.netlist.specs.Good.{good, check_of, netlist_in}
-use Rattle.netlist.specs.declared.Checked.TheVariants as checked
 use Rattle.netlist.proofs.Laying.{Long}
 use Rattle.checking.proofs.Top.{checked_good}
 use Rattle.cells.specs.Held.{held_runs}
@@ -21,7 +22,6 @@ use Rattle.translating.specs.InTables.{row_sum, translation_in}
 use Rattle.translating.specs.Outcome.{made, translated_of}
 use Rattle.translating.specs.Answered.{answered, Answers}
 use Rattle.translating.specs.Sound.{Sound}
-use Rattle.translating.specs.declared.Translated.{Translated}
 use Rattle.translating.proofs.Tabled.{sum_shown, translation_shown, sound}
 use Rattle.translating.proofs.Ways.{answered_is}
 
@@ -35,7 +35,7 @@ tables_translated T l g room work =
     (ap (λ (p : List Run). 3 + rows_total (row_sum p) T.cell_count T.cells) (pool_held T) ∙ sum_shown T g)
     (λ free. ap₂ (λ (p : List Run) (L : List ℕ). translation_in T.cells p T.cell_count L) (pool_held T) (good_order T l g) ∙ translation_shown T g free)
 
-module _ (rows strings bits : List ℕ) (h : check_of rows strings bits ≡ checked.Good) where
+module _ (rows strings bits : List ℕ) (h : check_of rows strings bits ≡ Ok tt) where
   is_good : good (tables_in rows strings bits) ≡ true
   is_good = (checked_good rows strings bits h).1
 
@@ -68,7 +68,7 @@ module _ (rows strings bits : List ℕ) (h : check_of rows strings bits ≡ chec
   unfolding tables_in part
   cut_sound = sound (tables_in rows strings bits) is_good long
 
-  pub is_translated : (m : ℕ) → m ≡ get_or rows 2 0 → {r : Translated} {room' work' room work : List ℕ} → Answers cells runs trits m room work r room' work'
+  pub is_translated : (m : ℕ) → m ≡ get_or rows 2 0 → {r : Result ℕ Refusal} {room' work' room work : List ℕ} → Answers cells runs trits m room work r room' work'
       → made r room' work' ≡ translated_of (netlist_in rows strings bits) room work
   unfolding tables_in part
   is_translated m q {r} {room'} {work'} {room} {work} e =

@@ -1,20 +1,19 @@
 -- The list of a translation passes the check, and reads back as its records.
-use mathlib.Core.Path.{◌≡◌, refl, ap, ap₂, ◌∙◌, sym, subst}
-use mathlib.Core.Bool.{Bool, true, false, ◌&&◌}
-use mathlib.Core.List.{List, [], ◌∷◌, ◌++◌, append_assoc}
-use mathlib.Core.Option.{Option, none, some}
-use Prim.Native.Nat.{ℕ, zero, suc, ◌+◌, ◌*◌, ◌/◌, ◌<◌, ◌≤◌}
+use mathlib.Core.Path.{◌≡◌, refl, ap, ◌∙◌, sym, subst}
+use mathlib.Core.Bool.{true, false, ◌&&◌}
+use mathlib.Core.List.{List, [], ◌∷◌, ◌++◌}
+use mathlib.Core.Option.{none}
+use Prim.Native.Nat.{ℕ, zero, suc, ◌+◌, ◌*◌, ◌<◌, ◌≤◌}
 use native.Mathlib.Omega.{arith}
 use native.Mathlib.Decide.{ℕ_discrete}
 use lib.Dec.{eqb, leb, ltb}
-use lib.ListN.{length, replicate, length-append, length-replicate}
+use lib.ListN.{length, replicate, length-replicate}
 use borrow.Author.Tests.{eq-eqb, ne_eqb, lt-ltb, le-ltb, le-leb, lt-leb}
-use Rattle.ground.specs.Choice.{pick}
 use Rattle.ground.specs.Lists.{every, joined, up_from}
-use Rattle.ground.proofs.Bools.{every_more, true_and}
+use Rattle.ground.proofs.Bools.{true_and}
 use Rattle.netlist.specs.Netlist.{Netlist}
 use Rattle.netlist.specs.Rules.{valid}
-use Rattle.loadlist.specs.Records.{rec, list_bytes, record_bytes, record_in, input_op, output_op}
+use Rattle.loadlist.specs.Records.{list_bytes, record_bytes, input_op, output_op}
 use Rattle.loadlist.specs.Check.{marked, is_whole, first_fits, second_fits, good_record, counted, bad_record_from, record_count, bad_record}
 use Rattle.loadlist.specs.Run.{assigns, outputs}
 use Rattle.loadlist.specs.declared.Record.{Record}
@@ -22,7 +21,7 @@ use Rattle.loadlist.proofs.Written.{read_back, records_back}
 use Rattle.cells.proofs.Fields.{GateAt, Gates, Below, below_more}
 use Rattle.placing.specs.Placing.{input_bits, outputs_from, ringed}
 use Rattle.evaluating.specs.Evaluation.{evaluation}
-use Rattle.translating.specs.Translation.{constants, input_records, output_records, slots_of, translation, record_sum}
+use Rattle.translating.specs.Translation.{input_records, output_records, slots_of, translation, record_sum}
 use Rattle.translating.proofs.Whole.{inner, cells_gates, outputs_right, early_below, made, made_length, translation_gives}
 use Rattle.translating.proofs.Counting.{translation_count}
 

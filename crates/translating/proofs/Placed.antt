@@ -1,14 +1,13 @@
 -- Cell after cell in the order of placing: what the records of a translation make is what the evaluation works out.
-use mathlib.Core.Path.{◌≡◌, refl, ap, ap₂, ◌∙◌, sym, subst}
-use mathlib.Core.Bool.{Bool, true, false, ◌||◌}
-use mathlib.Core.Logic.{⊎_elim}
-use mathlib.Core.List.{List, [], ◌∷◌, ◌++◌, append_assoc}
-use Prim.Native.Nat.{ℕ, zero, suc, ◌+◌, ◌<◌, ◌≤◌}
+use mathlib.Core.Path.{◌≡◌, refl, ap, ◌∙◌, sym, subst}
+use mathlib.Core.Bool.{Bool, true, false}
+use mathlib.Core.List.{List, [], ◌∷◌, ◌++◌}
+use Prim.Native.Nat.{ℕ, ◌+◌, ◌<◌}
 use native.Mathlib.Omega.{arith}
 use native.Mathlib.Nat.{add-zero}
 use native.Mathlib.Decide.{ℕ_discrete}
 use lib.Dec.{eqb, ltb}
-use lib.ListN.{length, get_or, length-append}
+use lib.ListN.{length, length-append}
 use Rattle.ground.specs.Choice.{pick}
 use Rattle.ground.specs.Lists.{updated}
 use Rattle.ground.proofs.Bools.{bool_cases, never_both, or_false}
@@ -16,9 +15,9 @@ use Rattle.ground.proofs.Families.{updated_same, updated_other}
 use Rattle.trit.specs.Trit.{Trits}
 use Rattle.trit.proofs.Laws.{not_trit, and_trit, or_trit, xor_trit}
 use Rattle.trit.proofs.Wide.{trits_append, trits_at}
-use Rattle.graph.specs.Graph.{mem, ready, place}
+use Rattle.graph.specs.Graph.{ready, place}
 use Rattle.graph.specs.Placing.{Placing, done, step}
-use Rattle.graph.proofs.Ready.{place_same, place_other, place_keeps, ready_unplaced, ready_reads}
+use Rattle.graph.proofs.Ready.{place_other, place_keeps, ready_unplaced, ready_reads}
 use Rattle.kinds.specs.Kinds.{input_kind, output_kind}
 use Rattle.kinds.proofs.Widths.{Fits}
 use Rattle.netlist.specs.Netlist.{Cell, Netlist}
@@ -27,16 +26,16 @@ use Rattle.netlist.proofs.Lengths.{cell_fits}
 use Rattle.loadlist.specs.Run.{slot_of, slots_from}
 use Rattle.loadlist.specs.declared.Record.{Record}
 use Rattle.cells.specs.Operands.{bits_from}
-use Rattle.cells.specs.Values.{kind_value, cell_value}
-use Rattle.cells.specs.Records.{Made, kind_made}
+use Rattle.cells.specs.Values.{cell_value}
+use Rattle.cells.specs.Records.{Made}
 use Rattle.cells.proofs.Running.{at, reads_of as values_in, Early, old, reads_old, early_old, slots_append, Right}
 use Rattle.cells.proofs.Meaning.{kind_right}
 use Rattle.cells.proofs.Linking.{Constants, Linked, RunsAsk, length_bits, operand_early, operand_held}
 use Rattle.placing.specs.Placing.{cell_at, reads_of, apart}
-use Rattle.placing.proofs.Sound.{Wide, valid_cell, wide_no_output, cell_asks}
+use Rattle.placing.proofs.Sound.{valid_cell, wide_no_output, cell_asks}
 use Rattle.evaluating.specs.Settled.{Setting, rule_of}
 use Rattle.evaluating.specs.Evaluation.{values_from}
-use Rattle.translating.specs.Translation.{Slots, cell_made, cell_records, cell_slots}
+use Rattle.translating.specs.Translation.{cell_made, cell_records, cell_slots}
 
 -- what a run makes has as many slots as records more
 pub slots_length : (rs : List Record) (ins S : List ℕ) → length (slots_from rs ins S) ≡ length S + length rs

@@ -1,11 +1,10 @@
 -- The rows of an order, made one after the other.
 use mathlib.Core.Path.{◌≡◌, refl, sym, ap, ◌∙◌}
 use mathlib.Core.List.{List, [], ◌∷◌, ◌++◌}
-use Prim.Native.Nat.{ℕ, suc, ◌+◌, ◌-◌, ◌*◌, ◌<◌, ◌≤◌}
+use Prim.Native.Nat.{ℕ, ◌+◌, ◌-◌, ◌<◌, ◌≤◌}
 use native.Mathlib.Omega.{arith}
 use lib.ListN.{length, take, drop, get_or, length-take}
 use lib.Seq.{sets, length-sets, get_or-take, length-take-le}
-use Rattle.ground.specs.Writes.{Put}
 use Rattle.ground.proofs.Rest.{rest_cons, rest_end}
 use Rattle.netlist.specs.Netlist.{Run}
 use Rattle.loadlist.specs.declared.Record.{Record}

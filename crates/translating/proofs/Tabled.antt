@@ -1,4 +1,6 @@
 -- The translation by the words of good tables is the translation of the netlist that they show, and good tables have what it asks.
+use Rattle.ground.specs.declared.Refusal.{Refusal}
+use Rattle.std.specs.Prelude.{Result}
 use mathlib.Core.Path.{◌≡◌, refl, ap, ap₂, ◌∙◌, sym, subst}
 use mathlib.Core.Bool.{Bool, true, false}
 use mathlib.Core.Logic.{⊎_elim}
@@ -41,7 +43,6 @@ use Rattle.translating.specs.Translation.{Slots, constants, input_records, input
 use Rattle.translating.specs.InTables.{row_sum, made_from, first_slots, row_records, row_slots, last_slots, translation_in}
 use Rattle.translating.specs.Sound.{RowSound, OrderSound, Sound}
 use Rattle.translating.specs.Answered.{Given}
-use Rattle.translating.specs.declared.Translated.{Translated}
 use Rattle.translating.proofs.Counting.{translation_count}
 use Rattle.translating.proofs.Ends.{total_within}
 use Rattle.translating.proofs.Listing.{part_up}
@@ -180,6 +181,6 @@ order_sound {cells} {runs} {trits} {n} {rows} {marks} {answer} s p free =
     }
 
 -- what is given for the order that placing leaves is given for the order of placing
-pub given_order : {cells runs : List ℕ} (pool : List Run) {n sum : ℕ} {rows marks room room' : List ℕ} {answer : Ordered} {r : Translated} → PlacedAll cells runs n rows marks answer
+pub given_order : {cells runs : List ℕ} (pool : List Run) {n sum : ℕ} {rows marks room room' : List ℕ} {answer : Ordered} {r : Result ℕ Refusal} → PlacedAll cells runs n rows marks answer
     → Given sum (translation_in cells pool n (take answer.count rows)) room r room' → Given sum (translation_in cells pool n (order_in cells runs n)) room r room'
 given_order {cells} {runs} pool {n} {sum} {rows} {marks} {room} {room'} {answer} {r} p g = subst (λ (L : List ℕ). Given sum (translation_in cells pool n L) room r room') (ordered p) g

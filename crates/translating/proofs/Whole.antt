@@ -1,35 +1,34 @@
 -- THE LIST RUNS THE NETLIST: the records of a translation, run for any setting of 0, 1 and X, give the netlist's output bits.
-use mathlib.Core.Path.{◌≡◌, refl, ap, ap₂, ◌∙◌, sym, subst}
-use mathlib.Core.Bool.{Bool, true, false, ◌||◌}
+use mathlib.Core.Path.{◌≡◌, refl, ap, ap₂, ◌∙◌, sym}
+use mathlib.Core.Bool.{Bool, true, false}
 use mathlib.Core.List.{List, [], ◌∷◌, ◌++◌, append_assoc, append-nil}
-use Prim.Native.Nat.{ℕ, zero, suc, ◌+◌, ◌<◌, ◌≤◌}
+use Prim.Native.Nat.{ℕ, ◌+◌, ◌<◌}
 use native.Mathlib.Omega.{arith}
 use lib.Dec.{eqb}
-use lib.ListN.{length, get_or, length-append, length-map}
+use lib.ListN.{length, length-map}
 use borrow.Author.Tests.{ne_eqb}
-use Rattle.ground.specs.Lists.{joined, up_from, updated}
-use Rattle.ground.proofs.Bools.{bool_cases, never_both, or_true}
+use Rattle.ground.specs.Lists.{up_from, updated}
+use Rattle.ground.proofs.Bools.{bool_cases, never_both}
 use Rattle.trit.specs.Trit.{Trits}
-use Rattle.graph.specs.Graph.{mem, ready, place, order}
+use Rattle.graph.specs.Graph.{place, order}
 use Rattle.graph.specs.Placing.{Placing, done, step}
 use Rattle.graph.proofs.Ready.{place_keeps, ready_unplaced}
 use Rattle.graph.proofs.Order.{order_placing, placing_marks}
 use Rattle.graph.proofs.Ring.{all_in}
-use Rattle.kinds.specs.Kinds.{output_kind}
 use Rattle.netlist.specs.Netlist.{Cell, Netlist}
-use Rattle.netlist.specs.Rules.{widths_of, valid}
-use Rattle.loadlist.specs.Records.{rec, input_op, output_op}
+use Rattle.netlist.specs.Rules.{valid}
+use Rattle.loadlist.specs.Records.{output_op}
 use Rattle.loadlist.specs.Run.{slots_from, outputs_in, assigns}
 use Rattle.loadlist.specs.declared.Record.{Record}
 use Rattle.cells.specs.Operands.{bits_from}
 use Rattle.cells.proofs.Running.{at, reads_of as values_in, Early, slots_append}
-use Rattle.cells.proofs.Linking.{Constants, Linked, operand_early}
+use Rattle.cells.proofs.Linking.{Linked, operand_early}
 use Rattle.cells.proofs.Fields.{Gates, Below, gates_append, kind_gates}
-use Rattle.placing.specs.Placing.{no_cell, cell_at, reads_of, input_bits, output_from, outputs_from, apart, placing_of, ringed}
-use Rattle.placing.proofs.Sound.{Wide, wide_no_output, cell_asks}
+use Rattle.placing.specs.Placing.{cell_at, reads_of, input_bits, outputs_from, apart, placing_of, ringed}
+use Rattle.placing.proofs.Sound.{wide_no_output, cell_asks}
 use Rattle.evaluating.specs.Settled.{rule_of}
 use Rattle.evaluating.specs.Evaluation.{values_from, assigned, evaluation}
-use Rattle.translating.specs.Translation.{Slots, constants, input_records, input_slots, cell_made, cell_records, cell_slots, output_records, slots_of, translation}
+use Rattle.translating.specs.Translation.{constants, input_records, input_slots, cell_made, cell_records, output_records, slots_of, translation}
 use Rattle.translating.proofs.Placed.{Held, asks, held_more, rule_is, placed_held, slots_length}
 use Rattle.translating.proofs.Ends.{begun, inputs_ran, given_length, given_trits, start_held, outputs_ran, outputs_held}
 

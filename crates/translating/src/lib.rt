@@ -8,26 +8,17 @@ mod rows;
 mod sum;
 mod tables;
 
-ghost use Rattle.std.specs.Prelude.{◌≡◌, false, length};
+ghost use Rattle.std.specs.Prelude.{◌≡◌, false, length, Ok};
 ghost use Rattle.ground.specs.Regions.{zeros};
 ghost use Rattle.netlist.specs.Good.{short, check_of, netlist_in};
-ghost use Rattle.netlist.specs.declared.Checked.TheVariants as checked;
 ghost use Rattle.translating.specs.Outcome.{made, translated_of, translate_of};
 
-use checking::check_tables;
+use checking::{check_tables, is_short, refused};
 use clearing::clear_words;
 use ground::Refusal;
-use netlist::Checked;
 use pools::word_of;
 use regions::{cells_of, run_trits_of, runs_of};
-use tables::{refused, translate_tables};
-
-// The number of records written, or a refusal.
-#[derive(Clone, Copy)]
-pub enum Translated {
-    Records(usize),
-    Refused(Refusal),
-}
+use tables::translate_tables;
 
 // Good tables, taken apart.
 fn translate_good(
@@ -36,8 +27,8 @@ fn translate_good(
     bits: &[u8],
     room: &mut [u8],
     work: &mut [u32],
-) -> Translated
-    requires { (check_of rows.now strings.now bits.now ≡ checked.Good) × (work.old ≡ zeros 8192) }
+) -> Result<usize, Refusal>
+    requires { (check_of rows.now strings.now bits.now ≡ Ok tt) × (work.old ≡ zeros 8192) }
     ensures { made result room.new work.new ≡ translated_of (netlist_in rows.now strings.now bits.now) room.old work.old }
 {
     let n = word_of(rows, 2);
@@ -58,15 +49,13 @@ fn translate_lent(
     bits: &[u8],
     room: &mut [u8],
     work: &mut [u32],
-) -> Translated
+) -> Result<usize, Refusal>
     requires { (short rows.now strings.now bits.now ≡ false) × (length work.old ≡ 8192) }
     ensures { made result room.new work.new ≡ translate_of rows.now strings.now bits.now room.old work.old }
 {
     clear_words(work);
-    match check_tables(rows, strings, bits) {
-        Checked::Refused(g) => Translated::Refused(g),
-        Checked::Good => translate_good(rows, strings, bits, room, work),
-    }
+    check_tables(rows, strings, bits)?;
+    translate_good(rows, strings, bits, room, work)
 }
 
 // The load list of lent tables, which are checked first: 1, 15, then 20 where cells form a ring, 21 where there are more than 8,192 records,
@@ -77,20 +66,14 @@ pub fn translate(
     bits: &[u8],
     room: &mut [u8],
     work: &mut [u32],
-) -> Translated
+) -> Result<usize, Refusal>
     ensures { made result room.new work.new ≡ translate_of rows.now strings.now bits.now room.old work.old }
 {
-    if rows.len() < 26307 {
-        return refused(1);
-    }
-    if strings.len() < 16384 {
-        return refused(1);
-    }
-    if bits.len() < 393728 {
-        return refused(1);
+    if is_short(rows, strings, bits) {
+        return Err(refused(1));
     }
     if work.len() < 8192 {
-        return refused(1);
+        return Err(refused(1));
     }
     translate_lent(rows, strings, bits, room, &mut work[0..8192])
 }

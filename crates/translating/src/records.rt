@@ -42,10 +42,8 @@ pub(crate) fn put_inputs(list: &mut [u8], count: usize)
     requires { (count ≤ 4096) × (8 * (3 + count) ≤ length list.old) }
     ensures { Puts list.old 3 (input_records (up_from 0 count)) list.new }
 {
-    let mut i: usize = 0;
-    while i < count {
+    for i in 0..count {
         put(list, 3 + i, 3, i as u16, 0);
-        i += 1;
     }
 }
 
@@ -54,10 +52,8 @@ fn number_slots(first: usize, size: usize, slots: &mut [u16], place: usize)
     requires { (first + size ≤ 65536) × (place + size ≤ length slots.old) }
     ensures { slots.new ≡ sets slots.old place (up_from first size) }
 {
-    let mut i: usize = 0;
-    while i < size {
+    for i in 0..size {
         slots[place + i] = (first + i) as u16;
-        i += 1;
     }
 }
 
@@ -68,14 +64,12 @@ pub(crate) fn input_slots(cells: &[u32], n: usize, slots: &mut [u16])
 {
     let mut start: usize = 0;
     let mut at: usize = 0;
-    let mut i: usize = 0;
-    while i < n {
+    for i in 0..n {
         let w = word_of(cells, i * 9 + 1);
         let taken = input_width(cells[i * 9], cells[i * 9 + 1]) as usize;
         number_slots(3 + at, taken, slots, start);
         start += w;
         at += taken;
-        i += 1;
     }
 }
 
@@ -84,10 +78,8 @@ fn put_outputs(list: &mut [u8], k: usize, slots: &[u16], j: usize)
     requires { (j + length slots.now ≤ 65536) × (8 * (k + length slots.now) ≤ length list.old) }
     ensures { Puts list.old k (output_records slots.now j) list.new }
 {
-    let mut i: usize = 0;
-    while i < slots.len() {
+    for i in 0..slots.len() {
         put(list, k + i, 8, slots[i], (j + i) as u16);
-        i += 1;
     }
 }
 
@@ -140,9 +132,7 @@ pub(crate) fn output_rows(
     ensures { Puts list.old k (output_records (outputs_in n cells.now (held_runs runs.now trits.now) (held_bits starts.now slots.now)) 0) list.new }
 {
     let mut j: usize = 0;
-    let mut i: usize = 0;
-    while i < n {
+    for i in 0..n {
         j += output_row(cells, runs, trits, starts, slots, i, list, k + j, j);
-        i += 1;
     }
 }

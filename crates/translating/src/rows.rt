@@ -74,11 +74,9 @@ pub(crate) fn make_rows(
     ensures { Listed list.old from (records_in (take count order.now) cells.now (held_runs runs.now trits.now) starts.now from slots.old) result list.new × (slots.new ≡ slots_in (take count order.now) cells.now (held_runs runs.now trits.now) starts.now from slots.old) }
 {
     let mut k = from;
-    let mut i: usize = 0;
-    while i < count {
+    for i in 0..count {
         let row = word_of(order, i);
         k = make_row(cells, runs, trits, starts, row, k, list, slots);
-        i += 1;
     }
     k
 }

@@ -70,10 +70,8 @@ pub(crate) fn sum_records(cells: &[u32], runs: &[u32], trits: &[u8], n: usize) -
     ensures { (result ≡ 3 + rows_total (row_sum (held_runs runs.now trits.now)) n cells.now) × (result < 17592186044416) }
 {
     let mut sum: usize = 3;
-    let mut i: usize = 0;
-    while i < n {
+    for i in 0..n {
         sum += row_records(cells, runs, trits, i);
-        i += 1;
     }
     sum
 }

@@ -1,7 +1,6 @@
 // The translation of sound tables in their regions: 20, 21, 24, or the records.
 ghost use Rattle.std.specs.Prelude.{◌≡◌, List, ◌++◌, ℕ, ◌+◌, ◌*◌, ◌<◌, ◌≤◌, length, take};
 ghost use Rattle.ground.specs.Lists.{up_from};
-ghost use Rattle.ground.specs.Refusals.{at, refusal};
 ghost use Rattle.ground.specs.Regions.{zeros};
 ghost use Rattle.cells.specs.Held.{held_runs};
 ghost use Rattle.recording.specs.Making.{Puts};
@@ -10,22 +9,14 @@ ghost use Rattle.translating.specs.Translation.{constants, input_records};
 ghost use Rattle.translating.specs.InTables.{row_sum, translation_in};
 ghost use Rattle.translating.specs.Answered.{Given, Answers};
 ghost use Rattle.translating.specs.Sound.{Roomy, OrderSound, Sound};
-ghost use Rattle.translating.specs.declared.Translated.TheVariants as translated;
 
-use crate::Translated;
 use crate::records::{input_slots, output_rows, put_constants, put_inputs};
 use crate::rows::make_rows;
 use crate::sum::sum_records;
 use assigning::{count_inputs, start_rows};
-use ground::{Place, Refusal};
+use checking::refused;
+use ground::Refusal;
 use ordering::order_rows;
-
-pub(crate) fn refused(number: u8) -> Translated
-    ensures { result ≡ translated.Refused (refusal number (at 0)) }
-{
-    let place = Place { at: 0 };
-    Translated::Refused(Refusal { number, place })
-}
 
 // Constants and inputs.
 fn put_front(list: &mut [u8], inputs: usize)
@@ -78,19 +69,19 @@ fn translate_placed(
     order: &[u32],
     count: usize,
     room: &mut [u8],
-) -> Translated
+) -> Result<usize, Refusal>
     requires { OrderSound cells.now (held_runs runs.now trits.now) n order.now count }
     ensures { Given (3 + rows_total (row_sum (held_runs runs.now trits.now)) n cells.now) (translation_in cells.now (held_runs runs.now trits.now) n (take count order.now)) room.old result room.new }
 {
     let sum = sum_records(cells, runs, trits, n);
     if 8192 < sum {
-        return refused(21);
+        return Err(refused(21));
     }
     if room.len() < 8 * sum {
-        return refused(24);
+        return Err(refused(24));
     }
     put_list(cells, runs, trits, n, order, count, room);
-    Translated::Records(sum)
+    Ok(sum)
 }
 
 // A ring is refused before the records are counted.
@@ -101,14 +92,14 @@ pub(crate) fn translate_tables(
     n: usize,
     room: &mut [u8],
     work: &mut [u32],
-) -> Translated
+) -> Result<usize, Refusal>
     requires { Sound cells.now runs.now trits.now n × (work.old ≡ zeros 8192) }
     ensures { Answers cells.now runs.now trits.now n room.old work.old result room.new work.new }
 {
     let mut order = [0u32; 512];
     let placed = order_rows(cells, runs, n, &mut order, work);
     if placed.ring {
-        return refused(20);
+        return Err(refused(20));
     }
     translate_placed(cells, runs, trits, n, &order, placed.count, room)
 }

@@ -7,6 +7,7 @@
 ghost use Rattle.std.specs.Prelude.{◌≡◌, ◌≤◌};
 ghost use Rattle.trit.specs.Trit.{not_of, and_of, or_of, xor_of, holds, count_of, carry_of};
 
+#[tactic(auto, unfolding(crate::specs::Trit::not_of))]
 pub fn not3(bit: u8) -> u8
     ensures { result ≡ not_of bit }
 {
@@ -19,6 +20,7 @@ pub fn not3(bit: u8) -> u8
     2
 }
 
+#[tactic(auto, unfolding(crate::specs::Trit::and_of))]
 pub fn and3(a: u8, b: u8) -> u8
     ensures { result ≡ and_of a b }
 {
@@ -37,6 +39,7 @@ pub fn and3(a: u8, b: u8) -> u8
     1
 }
 
+#[tactic(auto, unfolding(crate::specs::Trit::or_of))]
 pub fn or3(a: u8, b: u8) -> u8
     ensures { result ≡ or_of a b }
 {
@@ -55,6 +58,7 @@ pub fn or3(a: u8, b: u8) -> u8
     0
 }
 
+#[tactic(auto, unfolding(crate::specs::Trit::xor_of))]
 pub fn xor3(a: u8, b: u8) -> u8
     ensures { result ≡ xor_of a b }
 {
@@ -71,6 +75,7 @@ pub fn xor3(a: u8, b: u8) -> u8
 }
 
 // 1 where a is v, else 0.
+#[tactic(auto, unfolding(crate::specs::Trit::holds))]
 fn one(v: u8, a: u8) -> u8
     ensures { (result ≡ holds v a) × (result ≤ 1) }
 {
@@ -81,6 +86,7 @@ fn one(v: u8, a: u8) -> u8
 }
 
 // How many of the three are v.
+#[tactic(auto, unfolding(crate::specs::Trit::count_of))]
 fn count(v: u8, a: u8, b: u8, c: u8) -> u8
     ensures { result ≡ count_of v a b c }
 {
@@ -88,6 +94,7 @@ fn count(v: u8, a: u8, b: u8, c: u8) -> u8
 }
 
 // The carry rule.
+#[tactic(auto, unfolding(crate::specs::Trit::carry_of))]
 pub fn carry3(a: u8, b: u8, c: u8) -> u8
     ensures { result ≡ carry_of a b c }
 {

@@ -6,19 +6,19 @@
 ghost use Rattle.std.specs.Prelude.{◌≡◌, ◌<◌};
 ghost use Rattle.brackets.specs.Walks.{walk_from, walk_of, walk_on, walk_step};
 
-use brackets::{Operand, Parted, Walk, Walked};
+use brackets::{Operand, Part, Parted, Walk};
 use enclosed::measures::next_part;
 use ground::Place;
-use lexis::{Reader, Step};
+use lexis::{Reader, Token, Took};
 use tokenparts::{is_part, part_of};
 
 // The walk over an operand, by its first token.
-fn walk_from(text: &[u8], first: Step) -> Walk
+fn walk_from(text: &[u8], first: Took<Token>) -> Walk
     ensures { result ≡ walk_from text.now first }
 {
     match first {
-        Step::Refused(_) => Walk::Past,
-        Step::Took(token, r) => {
+        Err(_) => Walk::Past,
+        Ok((token, r)) => {
             let place = token.place;
             if is_part(token) {
                 return Walk::Alone(part_of(token), place);
@@ -29,6 +29,7 @@ fn walk_from(text: &[u8], first: Step) -> Walk
 }
 
 // The walk over the parts of an operand, the most significant first.
+#[tactic(auto, unfolding(brackets::specs::Walks::walk_of))]
 pub fn operand_walk(text: &[u8], operand: Operand) -> Walk
     ensures { result ≡ walk_of text.now operand }
 {
@@ -40,27 +41,28 @@ pub fn operand_walk(text: &[u8], operand: Operand) -> Walk
     Walk::Past
 }
 
-fn walk_on(left: usize, found: Parted) -> Walked
+fn walk_on(left: usize, found: Took<Parted>) -> Option<(Part, Place, Walk)>
     requires { 0 < left }
     ensures { result ≡ walk_on left found }
 {
-    match found {
-        Parted::Took(p, place, r) => Walked::Part(p, place, Walk::Within(r, left - 1)),
-        Parted::Other(_, _) => Walked::Done,
-        Parted::Refused(_) => Walked::Done,
+    let (what, r) = found.ok()?;
+    match what {
+        Parted::Took(p, place) => Some((p, place, Walk::Within(r, left - 1))),
+        Parted::Other(_) => None,
     }
 }
 
 // The next part of the walk.
-pub fn walk_next(text: &[u8], walk: Walk) -> Walked
+#[tactic(auto, unfolding(brackets::specs::Walks::walk_step))]
+pub fn walk_next(text: &[u8], walk: Walk) -> Option<(Part, Place, Walk)>
     ensures { result ≡ walk_step text.now walk }
 {
     match walk {
-        Walk::Past => Walked::Done,
-        Walk::Alone(p, place) => Walked::Part(p, place, Walk::Past),
+        Walk::Past => None,
+        Walk::Alone(p, place) => Some((p, place, Walk::Past)),
         Walk::Within(r, left) => {
             if left == 0 {
-                return Walked::Done;
+                return None;
             }
             walk_on(left, next_part(text, r))
         }

@@ -1,5 +1,6 @@
 -- A cell that passed the rules, kept: there is room for what is written, and afterwards it is noted with all that was.
 -- Assumes nothing.
+use Rattle.std.specs.Prelude.{Ok, Err, Some, None}
 use mathlib.Core.Path.{◌≡◌, refl, sym, ap, subst, ◌∙◌}
 use mathlib.Core.Bool.{Bool, true, false, ◌&&◌, ◌||◌}
 use mathlib.Core.List.{List, [], ◌∷◌, ◌++◌}
@@ -30,13 +31,11 @@ use Rattle.laying.specs.Bare.{some_bare, cell_bare, Covers}
 use Rattle.laying.proofs.Covering.{operand_covers, covers_join}
 use Rattle.laying.specs.declared.Laid.{Laid}
 use Rattle.laying.specs.declared.Counts.{Counts}
-use Rattle.laying.specs.declared.CellLaying.TheVariants as cellLaying
 use Rattle.noting.specs.Formed.{WiringIn}
 use Rattle.noting.specs.Noted.{metas_in, members_in, ios_in, cells_in, runs_in, attr_trits_in, run_trits_in, cell_map_in, meta_map_in, places_in, MetasHeld, IosHeld, CellsHeld, Tallied, Noted}
 use Rattle.laying.proofs.Counting.{operand_trits}
 use Rattle.wiring.specs.CellAdding.{SameBut, name_from, name_size, nameless, out_bits, tally_with, cell_words, RowFits, PlacesFit, WorkWith, RunsWith, laid_of, Passed, said_with, Kept}
 use Rattle.noting.specs.declared.Tally.{Tally}
-use Rattle.noting.specs.declared.Noting.TheVariants as noting
 use Rattle.wiring.proofs.CellFits.{Fitting, fitting}
 use Rattle.wiring.proofs.CellMore.{held_more}
 use Rattle.wiring.proofs.CellPlaces.{string_inside}
@@ -135,7 +134,7 @@ module _ (text : List ℕ) (so : Sofar) (n : Tally) (rows bits work : List ℕ) 
 
   -- the operands are laid
   module _ (rows' bits' : List ℕ) where
-    pub keep_row : (counts : Counts) → RunsWith text w (laid_of n) rows bits (cellLaying.Laid counts) rows' bits' → RowFits w counts
+    pub keep_row : (counts : Counts) → RunsWith text w (laid_of n) rows bits (Some counts) rows' bits' → RowFits w counts
     keep_row counts l =
         let rs = runs_of so.netlist.cells in
         let ra = operand_runs text w.a in
@@ -151,14 +150,14 @@ module _ (text : List ℕ) (so : Sofar) (n : Tally) (rows bits work : List ℕ) 
           c = omega (arith, k.c);
         }
 
-    pub keep_full : (index : ℕ) (place : Place) → RunsWith text w (laid_of n) rows bits cellLaying.Full rows' bits' → (work' : List ℕ) → Kept text so index place w (noting.Refused (refusal 13 place)) rows' bits' work'
+    pub keep_full : (index : ℕ) (place : Place) → RunsWith text w (laid_of n) rows bits None rows' bits' → (work' : List ℕ) → Kept text so index place w (Err (refusal 13 place)) rows' bits' work'
     keep_full index place l work' =
         let c = cell_of text so w in
         let k : 4096 < length (runs_of so.netlist.cells ++ cell_runs c) = l.laid (runs_of so.netlist.cells) h.cells.holds in
         (refl, runs_cramped so.netlist c (roomy_is so.netlist h.tally.roomy) (omega (arith, k, length-append (runs_of so.netlist.cells) (cell_runs c))))
 
     -- and all is written
-    module _ (counts : Counts) (l : RunsWith text w (laid_of n) rows bits (cellLaying.Laid counts) rows' bits') (index : ℕ) (small : index < 65536) (place : Place) (fresh : row_of so.cell_numbers index ≡ 0)
+    module _ (counts : Counts) (l : RunsWith text w (laid_of n) rows bits (Some counts) rows' bits') (index : ℕ) (small : index < 65536) (place : Place) (fresh : row_of so.cell_numbers index ≡ 0)
         (meta : ℕ) (is-meta : meta ≡ ref_row so.meta_numbers w.meta) (rows'' work' : List ℕ)
         (written : cells_in rows'' ≡ sets (cells_in rows') (n.cells * 9) (cell_words w meta counts)) (else : SameBut 9411 4608 rows' rows'') (worked : WorkWith n.cells index w work work') where
       abbrev c : Cell
@@ -185,7 +184,7 @@ module _ (text : List ℕ) (so : Sofar) (n : Tally) (rows bits work : List ℕ) 
           roomy_more so.netlist c r (omega (arith, keep_few)) (omega (arith, o.bits, t.declared)) (omega (arith, o.outputs, t.outputs, out_is text w i so))
           (omega (arith, counted.holds.long, length-append (runs_of so.netlist.cells) (cell_runs c))) (omega (arith, o.name, name_long text w i)) (omega (arith, o.strings, t.strings, name_long text w i))
 
-      pub keep_more : Kept text so index place w (noting.More (tally_with n w counts.so counts.bare)) rows'' bits' work'
+      pub keep_more : Kept text so index place w (Ok (tally_with n w counts.so counts.bare)) rows'' bits' work'
       keep_more = (
         room_more,
         record {

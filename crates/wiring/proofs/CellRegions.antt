@@ -1,5 +1,7 @@
 -- A region written over: all else stands as it stood.
 -- Assumes nothing.
+use Rattle.laying.specs.declared.Counts.{Counts}
+use Rattle.std.specs.Prelude.{Option}
 use mathlib.Core.Path.{◌≡◌, sym, ap, subst, ◌∙◌}
 use mathlib.Core.List.{List, [], ◌∷◌}
 use Prim.Native.Nat.{ℕ, ◌+◌, ◌*◌, ◌<◌, ◌≤◌}
@@ -14,7 +16,6 @@ use Rattle.saying.specs.Values.{operand_runs}
 use Rattle.laying.specs.Holding.{Holds, CellAfter}
 use Rattle.laying.specs.Bare.{cell_bare, CellTellsBare}
 use Rattle.laying.specs.declared.Laid.{Laid}
-use Rattle.laying.specs.declared.CellLaying.{CellLaying}
 use Rattle.noting.specs.Noted.{runs_in, run_trits_in, cell_map_in, meta_map_in, places_in}
 use Rattle.wiring.specs.CellAdding.{SameBut, place_words, WorkWith, RunsWith}
 use Rattle.noting.proofs.Flat.{put, length_put, part_put, part_before, part_after}
@@ -49,7 +50,7 @@ work_with n index w l p q h a b =
     }
 
 -- the runs and their trits
-pub runs_with : (text : List ℕ) (w : Wiring) (so : Laid) (rows bits : List ℕ) (r : CellLaying) (runs trits : List ℕ) → length rows ≡ 26307 → length bits ≡ 393728
+pub runs_with : (text : List ℕ) (w : Wiring) (so : Laid) (rows bits : List ℕ) (r : Option Counts) (runs trits : List ℕ) → length rows ≡ 26307 → length bits ≡ 393728
     → length runs ≡ 12288 → length trits ≡ 262656
     → ((rs : List Run) → Holds rs (runs_in rows) (run_trits_in bits) so → CellAfter rs (operand_runs text w.a) (operand_runs text w.b) (operand_runs text w.c) r runs trits)
     → CellTellsBare (cell_bare text w) r
@@ -64,7 +65,7 @@ runs_with text w so rows bits r runs trits h k i j laid tells = record {
 }
 
 -- the same where both are cut to the end of what is lent: n rows and m trits
-pub runs_rest : (text : List ℕ) (w : Wiring) (so : Laid) (rows bits : List ℕ) (r : CellLaying) (runs trits : List ℕ) (n m : ℕ) → length rows ≡ 26307 → length bits ≡ 393728 → n ≡ 12288 → m ≡ 262656
+pub runs_rest : (text : List ℕ) (w : Wiring) (so : Laid) (rows bits : List ℕ) (r : Option Counts) (runs trits : List ℕ) (n m : ℕ) → length rows ≡ 26307 → length bits ≡ 393728 → n ≡ 12288 → m ≡ 262656
     → length runs ≡ length (part 14019 n rows) → length trits ≡ length (part 131072 m bits)
     → ((rs : List Run) → Holds rs (part 14019 n rows) (part 131072 m bits) so → CellAfter rs (operand_runs text w.a) (operand_runs text w.b) (operand_runs text w.c) r runs trits)
     → CellTellsBare (cell_bare text w) r

@@ -1,5 +1,6 @@
 -- The rules 9 to 13 of a cell, in the paper's order.
 -- Assumes nothing.
+use Rattle.std.specs.Prelude.{Result, Ok, Err}
 use mathlib.Core.Path.{◌≡◌, refl, sym, ap, subst, ◌∙◌}
 use mathlib.Core.Bool.{Bool, true, false, not, ◌&&◌, ◌||◌}
 use mathlib.Core.List.{List, [], ◌∷◌, map}
@@ -31,8 +32,6 @@ use Rattle.noting.specs.Formed.{WiringIn, DeclIn}
 use Rattle.noting.specs.Noted.{cells_in, Noted, After}
 use Rattle.wiring.specs.CellAdding.{nameless, tight, Passed, said_with, Kept}
 use Rattle.noting.specs.declared.Tally.{Tally}
-use Rattle.noting.specs.declared.Noting.{Noting}
-use Rattle.noting.specs.declared.Noting.TheVariants as noting
 use Rattle.wiring.proofs.CellKeep.{name_long, out_is}
 use Rattle.wiring.proofs.CellMore.{noted_count}
 use Rattle.wiring.proofs.CellTight.{cramped}
@@ -124,6 +123,6 @@ module _ (text : List ℕ) (so : Sofar) (d : Declared) (w : Wiring) (e : d.decl 
           unfolding added said_by
           added_is = rw e
 
-          pub kept_after : (r : Noting) (rows bits work : List ℕ) → Kept text so d.index d.place w r rows bits work → After text so d r rows bits work
-          kept_after (noting.Refused g) rows bits work (k, t) = out_cramped t ∙ ap (λ (x : Refusal). some x) (sym k)
-          kept_after (noting.More m) rows bits work (t, k) = (out_none t, subst (λ (s : Sofar). Noted text s m rows bits work) (sym added_is) k)
+          pub kept_after : (r : Result Tally Refusal) (rows bits work : List ℕ) → Kept text so d.index d.place w r rows bits work → After text so d r rows bits work
+          kept_after (Err g) rows bits work (k, t) = out_cramped t ∙ ap (λ (x : Refusal). some x) (sym k)
+          kept_after (Ok m) rows bits work (t, k) = (out_none t, subst (λ (s : Sofar). Noted text s m rows bits work) (sym added_is) k)

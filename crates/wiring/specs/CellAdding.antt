@@ -1,5 +1,6 @@
 -- A cell as it is noted: what its row says, the limits that are tested before its operands are laid, and what stands afterwards.
-use Rattle.std.specs.Prelude.{◌≡◌, ℕ, ◌+◌, ◌*◌, ◌<◌, ◌≤◌, Bool, true, false, ◌&&◌, ◌||◌, List, [], ◌∷◌, ◌++◌, leb, ltb, eqb, length, get_or, set}
+use Rattle.ground.specs.declared.Refusal.{Refusal}
+use Rattle.std.specs.Prelude.{◌≡◌, ℕ, ◌+◌, ◌*◌, ◌<◌, ◌≤◌, Bool, true, false, ◌&&◌, ◌||◌, List, [], ◌∷◌, ◌++◌, leb, ltb, eqb, length, get_or, set, Result, Ok, Err, Option}
 use Rattle.std.proofs.lemmas.List.Edits.{sets}
 use Rattle.ground.specs.Choice.{pick}
 use Rattle.ground.specs.Lists.{joined}
@@ -17,11 +18,8 @@ use Rattle.laying.specs.Holding.{Holds, CellAfter}
 use Rattle.laying.specs.Bare.{cell_bare, CellTellsBare}
 use Rattle.laying.specs.declared.Laid.{Laid}
 use Rattle.laying.specs.declared.Counts.{Counts}
-use Rattle.laying.specs.declared.CellLaying.{CellLaying}
 use Rattle.noting.specs.Noted.{cells_in, runs_in, run_trits_in, cell_map_in, meta_map_in, places_in, Noted}
 use Rattle.noting.specs.declared.Tally.{Tally}
-use Rattle.noting.specs.declared.Noting.{Noting}
-use Rattle.noting.specs.declared.Noting.TheVariants as noting
 
 -- n words from a on are written over, and all else stands as it stood
 pub record SameBut (a n : ℕ) (old new : List ℕ) : Type 0 where
@@ -104,7 +102,7 @@ pub record WorkWith (n index : ℕ) (w : Wiring) (old new : List ℕ) : Type 0 w
   pub metas : meta_map_in new ≡ meta_map_in old
 
 -- THE OPERANDS are laid in their regions
-pub record RunsWith (text : List ℕ) (w : Wiring) (so : Laid) (rows bits : List ℕ) (r : CellLaying) (rows' bits' : List ℕ) : Type 0 where
+pub record RunsWith (text : List ℕ) (w : Wiring) (so : Laid) (rows bits : List ℕ) (r : Option Counts) (rows' bits' : List ℕ) : Type 0 where
   pub laid : (rs : List Run) → Holds rs (runs_in rows) (run_trits_in bits) so
       → CellAfter rs (operand_runs text w.a) (operand_runs text w.b) (operand_runs text w.c) r (runs_in rows') (run_trits_in bits')
   pub tells : CellTellsBare (cell_bare text w) r
@@ -124,11 +122,11 @@ pub record Passed (w : Wiring) (n : Tally) : Type 0 where
 abbrev pub said_with : List ℕ → Sofar → ℕ → Wiring → Sofar
 said_with text so index w = with_cell so index (cell_of text so w) (pieces_of text w)
 
-abbrev pub Kept : List ℕ → Sofar → ℕ → Place → Wiring → Noting → List ℕ → List ℕ → List ℕ → Type 0
-Kept text so index place w (noting.Refused g) rows bits work = (g ≡ refusal 13 place) × (roomy (said_with text so index w).netlist ≡ false)
-Kept text so index place w (noting.More n) rows bits work = (roomy (said_with text so index w).netlist ≡ true) × Noted text (said_with text so index w) n rows bits work
+abbrev pub Kept : List ℕ → Sofar → ℕ → Place → Wiring → Result Tally Refusal → List ℕ → List ℕ → List ℕ → Type 0
+Kept text so index place w (Err g) rows bits work = (g ≡ refusal 13 place) × (roomy (said_with text so index w).netlist ≡ false)
+Kept text so index place w (Ok n) rows bits work = (roomy (said_with text so index w).netlist ≡ true) × Noted text (said_with text so index w) n rows bits work
 
 -- whatever was said before, where the number is new
-abbrev pub Keeps : List ℕ → ℕ → Place → Wiring → Tally → List ℕ → List ℕ → List ℕ → Noting → List ℕ → List ℕ → List ℕ → Type 0
+abbrev pub Keeps : List ℕ → ℕ → Place → Wiring → Tally → List ℕ → List ℕ → List ℕ → Result Tally Refusal → List ℕ → List ℕ → List ℕ → Type 0
 Keeps text index place w n rows bits work r rows' bits' work' =
     (so : Sofar) → Noted text so n rows bits work → row_of so.cell_numbers index ≡ 0 → Kept text so index place w r rows' bits' work'

@@ -28,9 +28,10 @@ use cellruns::lay_cell;
 use form::{Declared, Wiring};
 use ground::{Place, Refusal};
 use kinds::{fits, has_name};
-use laying::{CellLaying, Counts, Laid};
-use noting::{Noting, Tally};
+use laying::{Counts, Laid};
+use noting::Tally;
 use regions::{cell_numbers_of, cells_of, meta_numbers_of, metas_of};
+use signs::classes::Classes;
 use taken::cell_taken;
 
 fn name_from(w: Wiring) -> usize
@@ -190,14 +191,14 @@ fn note_work(work: &mut [u32], n: usize, index: u32, w: Wiring)
 }
 
 fn lay_runs(
-    t: &[u8; 256],
+    t: &Classes,
     text: &[u8],
     w: Wiring,
     rows: &mut [u32],
     bits: &mut [u8],
     so: Laid,
-) -> CellLaying
-    requires { (t.now ≡ table) × (length text.now ≤ 65536) × (length rows.old ≡ 26307) × (length bits.old ≡ 393728) × Held (runs_in rows.old) (run_trits_in bits.old) so × Room text.now w so }
+) -> Option<Counts>
+    requires { (length text.now ≤ 65536) × (length rows.old ≡ 26307) × (length bits.old ≡ 393728) × Held (runs_in rows.old) (run_trits_in bits.old) so × Room text.now w so }
     ensures { RunsWith text.now w so rows.old bits.old result rows.new bits.new }
 {
     lay_cell(t, text, w, &mut rows[14019..], &mut bits[131072..], so)
@@ -250,7 +251,7 @@ fn is_misnamed(rows: &[u32], work: &[u32], n: usize, r: Ref) -> bool
 
 // A cell that passed the rules 9 to 12 and every limit but that of the runs.
 fn keep_cell(
-    t: &[u8; 256],
+    t: &Classes,
     text: &[u8],
     index: u32,
     place: Place,
@@ -259,8 +260,8 @@ fn keep_cell(
     bits: &mut [u8],
     work: &mut [u32],
     n: Tally,
-) -> Noting
-    requires { (t.now ≡ table) × (length text.now ≤ 65536) × NotedSome text.now n rows.old bits.old work.old × (index < 65536) × WiringIn text.now w × Passed w n }
+) -> Result<Tally, Refusal>
+    requires { (length text.now ≤ 65536) × NotedSome text.now n rows.old bits.old work.old × (index < 65536) × WiringIn text.now w × Passed w n }
     ensures { Keeps text.now index place w n rows.old bits.old work.old result rows.new bits.new work.new }
 {
     let meta = meta_row(work, w.meta);
@@ -269,12 +270,12 @@ fn keep_cell(
         trits: n.known,
     };
     let laying = lay_runs(t, text, w, rows, bits, so);
-    let CellLaying::Laid(counts) = laying else {
-        return Noting::Refused(Refusal { number: 13, place });
+    let Some(counts) = laying else {
+        return Err(Refusal { number: 13, place });
     };
     note_row(rows, n.cells, w, meta, counts);
     note_work(work, n.cells, index, w);
-    Noting::More(tally_with(n, w, counts.so, counts.bare))
+    Ok(tally_with(n, w, counts.so, counts.bare))
 }
 
 // Rule 12.
@@ -292,7 +293,7 @@ fn is_misfit(w: Wiring) -> bool
 
 // A declared cell, whose name may be known to be fresh: the first rule that it breaks, or the tables with it.
 pub fn note_cell(
-    t: &[u8; 256],
+    t: &Classes,
     text: &[u8],
     d: Declared,
     w: Wiring,
@@ -301,8 +302,8 @@ pub fn note_cell(
     work: &mut [u32],
     n: Tally,
     fresh: bool,
-) -> Noting
-    requires { (t.now ≡ table) × (length text.now ≤ 65536) × NotedSome text.now n rows.old bits.old work.old × Formed text.now d × (d.decl ≡ decl.Cell w) × FreshCell text.now (cells_in rows.old) n.cells w.kind w.name.from w.name.size fresh }
+) -> Result<Tally, Refusal>
+    requires { (length text.now ≤ 65536) × NotedSome text.now n rows.old bits.old work.old × Formed text.now d × (d.decl ≡ decl.Cell w) × FreshCell text.now (cells_in rows.old) n.cells w.kind w.name.from w.name.size fresh }
     ensures { (so : Sofar) → Noted text.now so n rows.old bits.old work.old → After text.now so d result rows.new bits.new work.new }
 {
     let index = d.index;
@@ -310,22 +311,22 @@ pub fn note_cell(
     let meta = w.meta;
     let reference = meta.place;
     if is_twice(text, rows, work, index, w, n.cells, fresh) {
-        return Noting::Refused(Refusal { number: 9, place });
+        return Err(Refusal { number: 9, place });
     }
     if is_misnamed(rows, work, n.metas, meta) {
-        return Noting::Refused(Refusal {
+        return Err(Refusal {
             number: 10,
             place: reference,
         });
     }
     if is_nameless(w) {
-        return Noting::Refused(Refusal { number: 11, place });
+        return Err(Refusal { number: 11, place });
     }
     if is_misfit(w) {
-        return Noting::Refused(Refusal { number: 12, place });
+        return Err(Refusal { number: 12, place });
     }
     if is_tight(n, w) {
-        return Noting::Refused(Refusal { number: 13, place });
+        return Err(Refusal { number: 13, place });
     }
     keep_cell(t, text, index, place, w, rows, bits, work, n)
 }

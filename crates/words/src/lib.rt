@@ -14,28 +14,19 @@ pub fn wide(x: u32) -> usize
 pub fn least(a: usize, b: usize) -> usize
     ensures { result ≡ min a b }
 {
-    if a < b {
-        return a;
-    }
-    b
+    a.min(b)
 }
 
 // The word at a place of a table, and 0 past its end.
 pub fn word_at(table: &[u32], at: usize) -> u32
     ensures { result ≡ get_or table.now at 0 }
 {
-    if at < table.len() {
-        return table[at];
-    }
-    0
+    table.get(at).copied().unwrap_or(0)
 }
 
 // Where `size` rows from the row `from` on end, in a table that has so many rows.
 pub fn rows_end(from: usize, size: usize, rows: usize) -> usize
     ensures { result ≡ from + min size (rows - from) }
 {
-    if rows <= from {
-        return from;
-    }
-    from + least(size, rows - from)
+    from + size.min(rows.saturating_sub(from))
 }

@@ -8,27 +8,13 @@ ghost use Rattle.std.specs.Prelude.{◌<◌, ◌≤◌, length};
 use finding::{find, hex};
 use itoa::Buffer;
 
-// Whether a pattern begins at the place.
-fn opens(line: &[u8], at: usize) -> bool {
-    if at < line.len() {
-        if line[at] == 92 {
-            if 2 <= line.len() - at {
-                return line[at + 1] == 123;
-            }
-        }
-    }
-    false
-}
-
 // The place past a byte; a backslash takes the byte behind it along.
 fn past(line: &[u8], at: usize) -> usize
     requires { at < length line.now }
     ensures { (at < result) × (result ≤ length line.now) }
 {
-    if line[at] == 92 {
-        if 2 <= line.len() - at {
-            return at + 2;
-        }
+    if line[at] == b'\\' && 2 <= line.len() - at {
+        return at + 2;
     }
     at + 1
 }
@@ -39,34 +25,21 @@ fn pattern_at(line: &[u8], from: usize) -> usize
     ensures { (from ≤ result) × (result ≤ length line.now) }
 {
     let mut i = from;
-    while i < line.len() {
-        if opens(line, i) {
-            return i;
-        }
+    while i < line.len() && !line[i..].starts_with(b"\\{") {
         i = past(line, i);
     }
     i
 }
 
-// A number with a digit behind it; one of five digits grows no more.
-fn grown(n: usize, digit: u8) -> usize
-    requires { (n ≤ 100005) × (digit ≤ 15) }
-    ensures { result ≤ 100005 }
-{
-    if n < 10000 {
-        return n * 10 + (digit as usize);
-    }
-    n
-}
-
+// The number that digits say; one of five digits grows no more.
 fn number(digits: &[u8]) -> usize {
-    let mut n: usize = 0;
-    let mut i: usize = 0;
-    while i < digits.len() {
-        n = grown(n, hex(digits[i]));
-        i += 1;
-    }
-    n
+    digits.iter().fold(0, |n, d| {
+        if n < 10000 {
+            n * 10 + usize::from(hex(*d))
+        } else {
+            n
+        }
+    })
 }
 
 // A byte past the end of the room is dropped.
@@ -85,13 +58,9 @@ fn put_all(room: &mut [u8], n: usize, bytes: &[u8]) -> usize
     requires { n ≤ length room.old }
     ensures { result ≤ length room.old }
 {
-    let mut k = n;
-    let mut i: usize = 0;
-    while i < bytes.len() {
-        k = put(room, k, bytes[i]);
-        i += 1;
-    }
-    k
+    let end = n + bytes.len().min(room.len() - n);
+    room[n..end].copy_from_slice(&bytes[..end - n]);
+    end
 }
 
 fn put_number(room: &mut [u8], n: usize, value: u64) -> usize
@@ -102,82 +71,43 @@ fn put_number(room: &mut [u8], n: usize, value: u64) -> usize
     put_all(room, n, digits.format(value).as_bytes())
 }
 
-// The byte that an escape means whose letter is c; `rest` stands behind the letter.
-fn escaped(c: u8, rest: &[u8]) -> u8 {
-    if c == 110 {
-        return 10;
-    }
-    if c == 114 {
-        return 13;
-    }
-    if c == 116 {
-        return 9;
-    }
-    if c == 120 {
-        if 2 <= rest.len() {
-            return hex(rest[0]) * 16 + hex(rest[1]);
-        }
-    }
-    c
-}
-
-// How many bytes an escape takes, the backslash counted.
-fn escape_size(c: u8) -> usize
-    ensures { (2 ≤ result) × (result ≤ 4) }
-{
-    if c == 120 { 4 } else { 2 }
-}
-
-// Where a room and a line stand.
-#[derive(Clone, Copy)]
-pub struct Spot {
-    pub n: usize,
-    pub at: usize,
-}
-
-// What the byte or the escape at a place of the line says.
-fn put_next(line: &[u8], at: usize, room: &mut [u8], n: usize, round: u64) -> Spot
-    requires { (at < length line.now) × (n ≤ length room.old) }
-    ensures { (result.n ≤ length room.old) × (at < result.at) × (result.at ≤ length line.now) }
-{
-    let b = line[at];
-    if b != 92 {
-        let k = put(room, n, b);
-        return Spot { n: k, at: at + 1 };
-    }
-    let left = line.len() - at;
-    if left < 2 {
-        return Spot { n, at: at + 1 };
-    }
-    let c = line[at + 1];
-    if c == 35 {
-        let k = put_number(room, n, round);
-        return Spot { n: k, at: at + 2 };
-    }
-    let k = put(room, n, escaped(c, &line[at + 2..line.len()]));
-    let size = escape_size(c);
-    if left < size {
-        return Spot { n: k, at: at + 2 };
-    }
-    Spot {
-        n: k,
-        at: at + size,
-    }
-}
-
-// The bytes that a line without patterns says, in one round.
+// The bytes that a line without patterns says, in one round. A backslash with nothing behind it says none.
 fn put_bytes(line: &[u8], room: &mut [u8], n: usize, round: u64) -> usize
     requires { n ≤ length room.old }
     ensures { result ≤ length room.old }
 {
     let mut k = n;
-    let mut at: usize = 0;
-    while at < line.len() {
-        let spot = put_next(line, at, room, k, round);
-        k = spot.n;
-        at = spot.at;
+    let mut left = line;
+    while let [b, behind @ ..] = left {
+        left = behind;
+        match (*b, behind) {
+            (b'\\', []) => {}
+            (b'\\', [b'#', rest @ ..]) => {
+                k = put_number(room, k, round);
+                left = rest;
+            }
+            (b'\\', [b'x', high, low, rest @ ..]) => {
+                k = put(room, k, hex(*high) * 16 + hex(*low));
+                left = rest;
+            }
+            (b'\\', [c, rest @ ..]) => {
+                k = put(room, k, escaped(*c));
+                left = rest;
+            }
+            (b, _) => k = put(room, k, b),
+        }
     }
     k
+}
+
+// The byte that a letter behind a backslash means.
+fn escaped(c: u8) -> u8 {
+    match c {
+        b'n' => b'\n',
+        b'r' => b'\r',
+        b't' => b'\t',
+        _ => c,
+    }
 }
 
 fn put_rounds(body: &[u8], times: usize, room: &mut [u8], n: usize) -> usize
@@ -185,10 +115,8 @@ fn put_rounds(body: &[u8], times: usize, room: &mut [u8], n: usize) -> usize
     ensures { result ≤ length room.old }
 {
     let mut k = n;
-    let mut round: usize = 0;
-    while round < times {
+    for round in 0..times {
         k = put_bytes(body, room, k, round as u64);
-        round += 1;
     }
     k
 }
@@ -202,15 +130,9 @@ pub fn put_text(line: &[u8], room: &mut [u8]) -> usize
     while at < line.len() {
         let open = pattern_at(line, at);
         n = put_bytes(&line[at..open], room, n, 0);
-        let bar = find(line, open, 124);
-        let end = find(line, bar, 125);
-        if line.len() <= end {
-            return n;
-        }
-        if bar - open < 2 {
-            return n;
-        }
-        if end <= bar {
+        let bar = find(line, open, b'|');
+        let end = find(line, bar, b'}');
+        if line.len() <= end || bar - open < 2 || end <= bar {
             return n;
         }
         let times = number(&line[open + 2..bar]);

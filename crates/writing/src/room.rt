@@ -23,10 +23,8 @@ pub fn put_all(room: &mut [u8], n: usize, word: &[u8]) -> usize
     ensures { Wrote room.old n (λ k. word.now ++ k) room.new result }
 {
     let mut n = n;
-    let mut i: usize = 0;
-    while i < word.len() {
+    for i in 0..word.len() {
         n = put(room, n, word[i]);
-        i += 1;
     }
     n
 }

@@ -4,6 +4,3 @@ use Rattle.assigning.proofs.assign.Given as goal
 
 abbrev pub invariant-loop-i : goal.invariant-loop-i
 invariant-loop-i l = Assigned l.rows l.n l.ins l.initial.values l.i l.start l.at l.values
-
-abbrev pub decreases-loop-i : goal.decreases-loop-i
-decreases-loop-i l = l.n - l.i

@@ -7,6 +7,3 @@ use Rattle.assigning.proofs.copy_bits.Given as goal
 
 abbrev pub invariant-loop-i : goal.invariant-loop-i
 invariant-loop-i l = l.to ≡ sets l.initial.to l.place (take l.i (part l.at l.size l.from))
-
-abbrev pub decreases-loop-i : goal.decreases-loop-i
-decreases-loop-i l = l.size - l.i

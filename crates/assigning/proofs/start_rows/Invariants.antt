@@ -4,6 +4,3 @@ use Rattle.assigning.proofs.start_rows.Given as goal
 
 abbrev pub invariant-loop-i : goal.invariant-loop-i
 invariant-loop-i l = Started l.rows l.n l.initial.starts l.i l.start l.starts
-
-abbrev pub decreases-loop-i : goal.decreases-loop-i
-decreases-loop-i l = l.n - l.i

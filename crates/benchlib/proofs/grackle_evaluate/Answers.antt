@@ -3,4 +3,4 @@ use Rattle.benchlib.specs.Logic.{after_evaluation}
 use Rattle.benchlib.proofs.grackle_evaluate.Goals as goal
 
 pub returns : goal.returns
-returns c = rw c.tell_evaluation.ensures (ap after_evaluation c.evaluate.ensures)
+returns c = rw c.tell.ensures (ap after_evaluation c.evaluate.ensures)

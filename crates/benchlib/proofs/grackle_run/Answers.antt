@@ -3,4 +3,4 @@ use Rattle.benchlib.specs.Logic.{after_run}
 use Rattle.benchlib.proofs.grackle_run.Goals as goal
 
 pub returns : goal.returns
-returns c = rw c.tell_run.ensures (ap after_run c.run.ensures)
+returns c = rw c.tell.ensures (ap after_run c.run.ensures)

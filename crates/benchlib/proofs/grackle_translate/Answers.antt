@@ -3,4 +3,4 @@ use Rattle.benchlib.specs.Logic.{after_translation}
 use Rattle.benchlib.proofs.grackle_translate.Goals as goal
 
 pub returns : goal.returns
-returns c = rw c.tell_translation.ensures (ap after_translation c.translate.ensures)
+returns c = rw c.tell.ensures (ap after_translation c.translate.ensures)

@@ -6,6 +6,3 @@ use Rattle.blanks.proofs.bytes_ahead.Given as goal
 
 abbrev pub invariant-loop-k : goal.invariant-loop-k
 invariant-loop-k l = (l.k ≤ 1024) × (l.most ≡ 0 → blank (drop (l.i + l.k) l.pool) ≡ blank (drop l.i l.pool))
-
-abbrev pub decreases-loop-k : goal.decreases-loop-k
-decreases-loop-k l = 1024 - l.k

@@ -6,6 +6,3 @@ use Rattle.blanks.proofs.words_ahead.Given as goal
 
 abbrev pub invariant-loop-k : goal.invariant-loop-k
 invariant-loop-k l = (l.count ≤ l.k) × (l.k ≤ 128) × (l.count ≡ 0 → blank (drop (l.i + l.k) l.table) ≡ blank (drop l.i l.table))
-
-abbrev pub decreases-loop-k : goal.decreases-loop-k
-decreases-loop-k l = 128 - l.k

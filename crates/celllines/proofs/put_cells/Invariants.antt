@@ -10,6 +10,3 @@ use Rattle.celllines.proofs.put_cells.Given as goal
 
 abbrev pub invariant-loop-i : goal.invariant-loop-i
 invariant-loop-i l = (length l.room ≡ length l.initial.room) × Leaves l.initial.room l.n-2 (cell_lines l.numbers l.widths l.numbers (cells_in (naming l.strings) (held_runs l.runs l.trits) (length l.numbers) l.rows)) l.room l.n (lines_from l.numbers l.widths (naming l.strings) (held_runs l.runs l.trits) l.rows l.i)
-
-abbrev pub decreases-loop-i : goal.decreases-loop-i
-decreases-loop-i l = length l.numbers - l.i

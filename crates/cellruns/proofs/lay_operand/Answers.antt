@@ -12,15 +12,15 @@ pub lay_alone-requires : goal.lay_alone-requires
 lay_alone-requires c =
     let a = c.args in
     let h = c.requires in
-    let e = sym c.first_token-step.ensures ∙ c.in-Took.is in
+    let e = sym c.first_token-step.ensures ∙ c.in-Ok.is in
     let is = sym c.is_part.ensures ∙ c.if-is_part.true in
     let w = at_alone a.text.now a.operand c.if-operand.true _ _ e is in
-    (h.0, alone_in a.text.now a.operand c.if-operand.true _ _ e is, operand_fits a.text.now a.operand w h.2 h.3 h.4)
+    (alone_in a.text.now a.operand c.if-operand.true _ _ e is, operand_fits a.text.now a.operand w h.1 h.2 h.3)
 
 pub returns-then-is_part : goal.returns-then-is_part
 returns-then-is_part c =
     let a = c.args in
-    let e = sym c.first_token-step.ensures ∙ c.in-Took.is in
+    let e = sym c.first_token-step.ensures ∙ c.in-Ok.is in
     let is = sym c.is_part.ensures ∙ c.if-is_part.true in
     let w = at_alone a.text.now a.operand c.if-operand.true _ _ e is in
     operand_laid a.text.now a.operand w c.lay_alone.ensures
@@ -29,15 +29,15 @@ pub lay_within-requires : goal.lay_within-requires
 lay_within-requires c =
     let a = c.args in
     let h = c.requires in
-    let e = sym c.first_token-step.ensures ∙ c.in-Took.is in
+    let e = sym c.first_token-step.ensures ∙ c.in-Ok.is in
     let not = sym c.is_part.ensures ∙ c.if-is_part.false in
     let w = at_within a.text.now a.operand c.if-operand.true _ _ e not in
-    (h.0, h.1, operand_fits a.text.now a.operand w h.2 h.3 h.4)
+    (h.0, operand_fits a.text.now a.operand w h.1 h.2 h.3)
 
 pub returns-then-operand : goal.returns-then-operand
 returns-then-operand c =
     let a = c.args in
-    let e = sym c.first_token-step.ensures ∙ c.in-Took.is in
+    let e = sym c.first_token-step.ensures ∙ c.in-Ok.is in
     let not = sym c.is_part.ensures ∙ c.if-is_part.false in
     let w = at_within a.text.now a.operand c.if-operand.true _ _ e not in
     operand_laid a.text.now a.operand w c.lay_within.ensures

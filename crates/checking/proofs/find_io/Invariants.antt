@@ -8,6 +8,3 @@ use Rattle.checking.proofs.find_io.Given as goal
 
 abbrev pub invariant-loop-i : goal.invariant-loop-i
 invariant-loop-i l = (l.i ≤ l.n) × (io_from (ios_in (strings_alone l.strings) (l.n - l.i) (drop (l.i * 3) l.ios)) l.i l.name ≡ io_from (ios_in (strings_alone l.strings) l.n l.ios) 0 l.name)
-
-abbrev pub decreases-loop-i : goal.decreases-loop-i
-decreases-loop-i l = l.n - l.i

@@ -1,7 +1,7 @@
 use Rattle.checklib.proofs.tell_check.Goals as goal
 
-pub returns-in-Good : goal.returns-in-Good
-returns-in-Good c = rw (c.accepted.ensures, c.in-Good.is)
+pub returns-in-Ok : goal.returns-in-Ok
+returns-in-Ok c = rw (c.accepted.ensures, c.in-Ok.is)
 
-pub returns-in-Refused : goal.returns-in-Refused
-returns-in-Refused c = rw (c.told_by.ensures, c.in-Refused.is)
+pub returns-in-Err : goal.returns-in-Err
+returns-in-Err c = rw (c.told_by.ensures, c.in-Err.is)

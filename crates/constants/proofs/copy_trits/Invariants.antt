@@ -9,6 +9,3 @@ use Rattle.constants.proofs.copy_trits.Given as goal
 
 abbrev pub invariant-loop-i : goal.invariant-loop-i
 invariant-loop-i l = (l.i ≤ l.size) × (length l.trits ≡ length l.initial.trits) × (l.trits ≡ sets l.initial.trits l.at (take l.i (map trit_of (part l.from l.size l.text))))
-
-abbrev pub decreases-loop-i : goal.decreases-loop-i
-decreases-loop-i l = l.size - l.i

@@ -1,4 +1,4 @@
-use Prim.Native.Nat.{suc, ◌-◌}
+use Prim.Native.Nat.{suc, ◌+◌, ◌-◌}
 use mathlib.Core.Path.{◌≡◌, refl, ◌∙◌}
 use native.Mathlib.Omega.{arith}
 use Rattle.writing.proofs.Stands.{start}
@@ -10,11 +10,12 @@ pub loop-i-init : goal.loop-i-init
 loop-i-init c = (refl, search rules, search rules, start _ _ _)
 
 pub split_at-s-requires : goal.split_at-s-requires
-split_at-s-requires c = (c.loop-i.invariant.1, c.loop-i.invariant.2)
+split_at-s-requires c = let k : c.loop-i.i - 1 + 1 ≡ c.loop-i.i = omega arith in (omega (arith, c.loop-i.invariant.1), rw k c.loop-i.invariant.2)
 
 pub loop-i-preserved : goal.loop-i-preserved
 loop-i-preserved c = let p = c in
-    let s = c.split_at-s.ensures in
+    let k : p.loop-i.i - 1 + 1 ≡ p.loop-i.i = omega arith in
+    let s = rw k at c.split_at-s.ensures in
     let h = c.loop-i-test.true in
     let e : suc (p.loop-i.i - 1) ≡ p.loop-i.i = omega arith in (
       c.put-n.auto.room ∙ p.loop-i.invariant.0,

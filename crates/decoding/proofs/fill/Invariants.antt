@@ -7,6 +7,3 @@ use Rattle.decoding.proofs.fill.Given as goal
 
 abbrev pub invariant-loop-done : goal.invariant-loop-done
 invariant-loop-done l = (length l.room ≡ length l.initial.room) × (l.done + length (decoded l.text l.i) ≡ l.size) × (sets l.room l.done (decoded l.text l.i) ≡ sets l.initial.room 0 (decoded l.text l.from))
-
-abbrev pub decreases-loop-done : goal.decreases-loop-done
-decreases-loop-done l = l.size - l.done

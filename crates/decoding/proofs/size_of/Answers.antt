@@ -3,10 +3,10 @@ use Rattle.signs.specs.Pieces.{quoted_at, string_at}
 use Rattle.signs.proofs.Strings.{closed_size, malformed_size}
 use Rattle.decoding.proofs.size_of.Goals as goal
 
-pub returns-in-Closed : goal.returns-in-Closed
+pub returns-in-Some : goal.returns-in-Some
 unfolding quoted_at
-returns-in-Closed c = let a = c.args in closed_size (string_at a.text.now a.from) _ _ (sym c.in-Closed.is ∙ c.quoted_at.ensures)
+returns-in-Some c = let a = c.args in closed_size (string_at a.text.now a.from) _ _ (sym c.in-Some.is ∙ c.quoted_at.ensures)
 
-pub returns-in-Malformed : goal.returns-in-Malformed
+pub returns-in-None : goal.returns-in-None
 unfolding quoted_at
-returns-in-Malformed c = let a = c.args in malformed_size (string_at a.text.now a.from) (sym c.in-Malformed.is ∙ c.quoted_at.ensures)
+returns-in-None c = let a = c.args in malformed_size (string_at a.text.now a.from) (sym c.in-None.is ∙ c.quoted_at.ensures)

@@ -16,10 +16,10 @@ lost_piece-requires c = let p = c in
 pub finish-requires : goal.finish-requires
 finish-requires c = let p = c in
     let s = p.requires.0 in
-    (record { so = s.whole.so; bits = s.bits; ready = all_ready c.lost_piece.ensures c.in-Nowhere.is s.bits s.whole }, ap length p.requires.1 ∙ length_zeros 16384)
+    (record { so = s.whole.so; bits = s.bits; ready = all_ready c.lost_piece.ensures c.in-None.is s.bits s.whole }, ap length p.requires.1 ∙ length_zeros 16384)
 
-pub returns-in-At : goal.returns-in-At
-returns-in-At c = end_lost c.lost_piece.ensures _ c.in-At.is _
+pub returns-in-Some : goal.returns-in-Some
+returns-in-Some c = end_lost c.lost_piece.ensures _ c.in-Some.is _
 
-pub returns-in-Nowhere : goal.returns-in-Nowhere
-returns-in-Nowhere c = end_found c.lost_piece.ensures c.in-Nowhere.is c.requires.1 c.finish.ensures
+pub returns-in-None : goal.returns-in-None
+returns-in-None c = end_found c.lost_piece.ensures c.in-None.is c.requires.1 c.finish.ensures

@@ -10,6 +10,3 @@ use Rattle.iolines.proofs.put_ios.Given as goal
 
 abbrev pub invariant-loop-i : goal.invariant-loop-i
 invariant-loop-i l = (length l.room ≡ length l.initial.room) × Leaves l.initial.room l.n-2 (io_lines (ios_in (pools l.strings [] []) l.count l.rows)) l.room l.n (io_lines (ios_in (pools l.strings [] []) (l.count - l.i) (drop (l.i * 3) l.rows)))
-
-abbrev pub decreases-loop-i : goal.decreases-loop-i
-decreases-loop-i l = l.count - l.i

@@ -5,5 +5,5 @@ use Rattle.kinds.proofs.operands_of.Goals as goal
 pub returns-then-k-lt13 : goal.returns-then-k-lt13
 returns-then-k-lt13 c = operands_at c.args.kind c.if-k-lt13.true
 
-pub returns : goal.returns
-returns c = rw (no_kind_lem c.args.kind (omega arith))
+pub returns-else-k-lt13 : goal.returns-else-k-lt13
+returns-else-k-lt13 c = rw (no_kind_lem c.args.kind (omega arith))

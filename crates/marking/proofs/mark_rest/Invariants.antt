@@ -6,6 +6,3 @@ use Rattle.marking.proofs.mark_rest.Given as goal
 
 abbrev pub invariant-loop-i : goal.invariant-loop-i
 invariant-loop-i l = mark_from l.mark (drop l.i l.name) ≡ mark_from l.start (drop l.from l.name)
-
-abbrev pub decreases-loop-i : goal.decreases-loop-i
-decreases-loop-i l = length l.name - l.i

@@ -9,6 +9,3 @@ use Rattle.metalines.proofs.put_metas.Given as goal
 
 abbrev pub invariant-loop-i : goal.invariant-loop-i
 invariant-loop-i l = (length l.room ≡ length l.initial.room) × Leaves l.initial.room l.n-2 (meta_lines 0 (metas_in (pools l.strings l.members l.trits) l.count l.rows)) l.room l.n (meta_lines l.i (metas_in (pools l.strings l.members l.trits) (l.count - l.i) (drop (l.i * 16) l.rows)))
-
-abbrev pub decreases-loop-i : goal.decreases-loop-i
-decreases-loop-i l = l.count - l.i

@@ -9,10 +9,10 @@ pub returns-in-Source : goal.returns-in-Source
 returns-in-Source c = λ ns numbers m l t. rw c.in-Source.is
 
 pub returns-in-Scope : goal.returns-in-Scope
-returns-in-Scope c = let s = c in let e = c.in-Scope.is in let d = subst (DeclIn s.args.text.now) e s.requires.2 in λ ns numbers m l t. rw e (c.scope_misnaming.ensures ns numbers m l t d.1.small d.2.small)
+returns-in-Scope c = let s = c in let e = c.in-Scope.is in let d = subst (DeclIn s.args.text.now) e s.requires.1 in λ ns numbers m l t. rw e (c.scope_misnaming.ensures ns numbers m l t d.1.small d.2.small)
 
 pub returns-in-Ident : goal.returns-in-Ident
-returns-in-Ident c = let s = c in let e = c.in-Ident.is in let d = subst (DeclIn s.args.text.now) e s.requires.2 in λ ns numbers m l t. rw e (c.misnaming_of.ensures ns numbers m l t d.1.small)
+returns-in-Ident c = let s = c in let e = c.in-Ident.is in let d = subst (DeclIn s.args.text.now) e s.requires.1 in λ ns numbers m l t. rw e (c.misnaming_of.ensures ns numbers m l t d.1.small)
 
 pub returns-in-Attr : goal.returns-in-Attr
 returns-in-Attr c = λ ns numbers m l t. rw c.in-Attr.is

@@ -4,7 +4,7 @@ use mathlib.Core.List.{[]}
 use Rattle.metas.proofs.put_members.Goals as goal
 
 pub put_set-requires : goal.put_set-requires
-put_set-requires c = let s = c in let a = s.args in (s.requires.0, s.requires.1, set_room a.text.now a.at (length a.pool.now) a.decl _ c.in-Set.is s.requires.2)
+put_set-requires c = let s = c in let a = s.args in (s.requires.0, set_room a.text.now a.at (length a.pool.now) a.decl _ c.in-Set.is s.requires.1)
 
 pub returns-in-Set : goal.returns-in-Set
 returns-in-Set c = λ ns m. rw c.in-Set.is (c.put_set.ensures ns m)

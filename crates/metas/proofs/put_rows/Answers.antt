@@ -9,7 +9,7 @@ use Rattle.metas.proofs.put_rows.Goals as goal
 
 pub put_members-requires : goal.put_members-requires
 unfolding part
-put_members-requires c = let s = c in let a = s.args in let r : 8195 + 1024 ≤ length a.rows.now = omega (arith, s.requires.2) in let l = part_length 8195 1024 a.rows.now r in (s.requires.0, s.requires.1, λ ns. rw l (s.requires.4 ns))
+put_members-requires c = let s = c in let a = s.args in let r : 8195 + 1024 ≤ length a.rows.now = omega (arith, s.requires.1) in let l = part_length 8195 1024 a.rows.now r in (s.requires.0, λ ns. rw l (s.requires.3 ns))
 
 pub returns : goal.returns
 unfolding part

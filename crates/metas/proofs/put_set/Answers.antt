@@ -1,36 +1,30 @@
-use Rattle.metas.proofs.MetaLaws.{tour_whole, member_small, member_room, member_more, members_done, members_none}
+use Rattle.metas.proofs.MetaLaws.{tour_whole, member_small, member_room, member_more, members_done}
 use Rattle.brackets.proofs.Steps.{tour_shrinks}
 use lib.ListN.{length-set}
 use native.Mathlib.Omega.{arith}
 use mathlib.Core.Path.{refl, sym, ◌∙◌}
 use Rattle.metas.proofs.put_set.Goals as goal
 
-pub loop-tour-init : goal.loop-tour-init
-loop-tour-init c = let s = c in let a = s.args in let w = tour_whole a.text.now a.members.at c.tour_of-tour.result c.tour_of-tour.ensures in (refl, rw w s.requires.2, λ ns m. refl)
+pub loop-m-init : goal.loop-m-init
+loop-m-init c = let a = c.args in let w = tour_whole a.text.now a.members.at c.tour_of-tour.result c.tour_of-tour.ensures in (refl, rw w c.requires.1, λ ns m. refl)
 
 pub offset_bounds-pool-to : goal.offset_bounds-pool-to
-offset_bounds-pool-to c = let p = c in let l = p in let s = l in let r = member_room s.args.text.now l.loop-tour.tour _ _ (sym p.tour_step.ensures ∙ c.in-Member.is) l.loop-tour.to _ l.loop-tour.invariant.1 in omega (arith, r.0)
+offset_bounds-pool-to c = let r = member_room c.args.text.now c.loop-m.tour _ _ (sym c.tour_step.ensures ∙ c.in-Some.is) c.loop-m.to _ c.loop-m.invariant.1 in omega (arith, r.0)
 
 pub bounds-pool-to : goal.bounds-pool-to
-bounds-pool-to c = let p = c in let l = p in let s = l in let r = member_room s.args.text.now l.loop-tour.tour _ _ (sym p.tour_step.ensures ∙ c.in-Member.is) l.loop-tour.to _ l.loop-tour.invariant.1 in omega (arith, r.0, l.loop-tour.invariant.0)
+bounds-pool-to c = let r = member_room c.args.text.now c.loop-m.tour _ _ (sym c.tour_step.ensures ∙ c.in-Some.is) c.loop-m.to _ c.loop-m.invariant.1 in omega (arith, r.0, c.loop-m.invariant.0)
 
 pub overflow_add-to : goal.overflow_add-to
-overflow_add-to c = let p = c in let l = p in let s = l in let r = member_room s.args.text.now l.loop-tour.tour _ _ (sym p.tour_step.ensures ∙ c.in-Member.is) l.loop-tour.to _ l.loop-tour.invariant.1 in omega (arith, r.0)
+overflow_add-to c = let r = member_room c.args.text.now c.loop-m.tour _ _ (sym c.tour_step.ensures ∙ c.in-Some.is) c.loop-m.to _ c.loop-m.invariant.1 in omega (arith, r.0)
 
-pub loop-tour-smaller : goal.loop-tour-smaller
-loop-tour-smaller c = let p = c in let l = p in let s = l in tour_shrinks s.args.text.now l.loop-tour.tour _ _ (sym p.tour_step.ensures ∙ c.in-Member.is)
+pub loop-m-smaller : goal.loop-m-smaller
+loop-m-smaller c = tour_shrinks c.args.text.now c.loop-m.tour _ _ (sym c.tour_step.ensures ∙ c.in-Some.is)
 
-pub loop-tour-preserved : goal.loop-tour-preserved
-loop-tour-preserved c = let p = c in let l = p in let s = l in let t = s.args.text.now in let e = sym p.tour_step.ensures ∙ c.in-Member.is in let r = member_room t l.loop-tour.tour _ _ e l.loop-tour.to _ l.loop-tour.invariant.1 in (simp length-set l.loop-tour.invariant.0, r.1, λ ns m. member_more t l.loop-tour.tour _ _ e ns l.loop-tour.pool l.loop-tour.to _ (c.ref_row.ensures.1 ns m (member_small t l.loop-tour.tour _ _ e)) ∙ l.loop-tour.invariant.2 ns m)
-
-pub shape_of-pool-in-Done : goal.shape_of-pool-in-Done
-shape_of-pool-in-Done c = c.loop-tour.invariant.0
-
-pub returns-in-Done : goal.returns-in-Done
-returns-in-Done c = let p = c in let l = p in let s = l in let a = s.args in let f = l.tour_of-tour in let w = tour_whole a.text.now a.members.at f.result f.ensures in λ ns m. members_done a.text.now l.loop-tour.tour (sym p.tour_step.ensures ∙ c.in-Done.is) ns l.loop-tour.pool l.loop-tour.to ∙ l.loop-tour.invariant.2 ns m ∙ rw w
+pub loop-m-preserved : goal.loop-m-preserved
+loop-m-preserved c = let t = c.args.text.now in let e = sym c.tour_step.ensures ∙ c.in-Some.is in let r = member_room t c.loop-m.tour _ _ e c.loop-m.to _ c.loop-m.invariant.1 in (simp length-set c.loop-m.invariant.0, r.1, λ ns m. member_more t c.loop-m.tour _ _ e ns c.loop-m.pool c.loop-m.to _ (c.ref_row.ensures.1 ns m (member_small t c.loop-m.tour _ _ e)) ∙ c.loop-m.invariant.2 ns m)
 
 pub shape_of-pool : goal.shape_of-pool
-shape_of-pool c = c.loop-tour.invariant.0
+shape_of-pool c = c.loop-m.invariant.0
 
 pub returns : goal.returns
-returns c = let l = c in let s = l in let a = s.args in let f = l.tour_of-tour in let w = tour_whole a.text.now a.members.at f.result f.ensures in λ ns m. members_none a.text.now l.loop-tour.tour c.loop-tour-test.false ns l.loop-tour.pool l.loop-tour.to ∙ l.loop-tour.invariant.2 ns m ∙ rw w
+returns c = let a = c.args in let f = c.tour_of-tour in let w = tour_whole a.text.now a.members.at f.result f.ensures in λ ns m. members_done a.text.now c.loop-m.tour (sym c.tour_step.ensures ∙ c.in_default.is) ns c.loop-m.pool c.loop-m.to ∙ c.loop-m.invariant.2 ns m ∙ rw w

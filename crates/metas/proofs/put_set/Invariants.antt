@@ -8,8 +8,8 @@ use mathlib.Core.List.{List}
 use Prim.Native.Nat.{ℕ, ◌+◌, ◌≤◌}
 use Rattle.metas.proofs.put_set.Given as goal
 
-abbrev pub invariant-loop-tour : goal.invariant-loop-tour
-invariant-loop-tour l = (length l.pool ≡ length l.initial.pool) × (l.to + length (members_left l.text l.tour) ≤ length l.initial.pool) × ((ns : List ℕ) → Maps ns l.map → sets l.pool l.to (rows_of ns (members_left l.text l.tour)) ≡ sets l.initial.pool l.initial.to (rows_of ns (members_left l.text l.initial.tour)))
+abbrev pub invariant-loop-m : goal.invariant-loop-m
+invariant-loop-m l = (length l.pool ≡ length l.initial.pool) × (l.to + length (members_left l.text l.tour) ≤ length l.initial.pool) × ((ns : List ℕ) → Maps ns l.map → sets l.pool l.to (rows_of ns (members_left l.text l.tour)) ≡ sets l.initial.pool l.initial.to (rows_of ns (members_left l.text l.initial.tour)))
 
-abbrev pub decreases-loop-tour : goal.decreases-loop-tour
-decreases-loop-tour l = l.tour.left
+abbrev pub decreases-loop-m : goal.decreases-loop-m
+decreases-loop-m l = l.tour.left

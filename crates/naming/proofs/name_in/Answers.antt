@@ -11,4 +11,4 @@ pub returns-then-is_ident : goal.returns-then-is_ident
 returns-then-is_ident c = let a = c.args in is_ident_named a.count a.metas.now a.strings.now a.row c.is_ident.ensures a.room.now _ c.if-is_ident.true c.name_row.ensures
 
 pub returns : goal.returns
-returns c = let a = c.args in rw c.no_ident.ensures (no_ident_named a.count a.metas.now a.strings.now a.row c.is_ident.ensures a.room.now c.if-is_ident.false)
+returns c = let a = c.args in rw c.refused.ensures (no_ident_named a.count a.metas.now a.strings.now a.row c.is_ident.ensures a.room.now c.if-is_ident.false)

@@ -7,6 +7,3 @@ use Rattle.numbering.proofs.number_cells.Given as goal
 
 abbrev pub invariant-loop-i : goal.invariant-loop-i
 invariant-loop-i l = (length l.numbers ≡ length l.initial.numbers) × (l.number ≤ l.i * 4096) × (sets l.numbers l.i (numbers_by l.number (drop l.i l.widths)) ≡ sets l.initial.numbers 0 (numbers_by 0 l.widths))
-
-abbrev pub decreases-loop-i : goal.decreases-loop-i
-decreases-loop-i l = length l.widths - l.i

@@ -7,6 +7,3 @@ use Rattle.numbering.proofs.take_widths.Given as goal
 
 abbrev pub invariant-loop-i : goal.invariant-loop-i
 invariant-loop-i l = (length l.widths ≡ length l.initial.widths) × (sets l.widths l.i (row_widths (length l.initial.widths - l.i) (drop (l.i * 9) l.rows)) ≡ sets l.initial.widths 0 (row_widths (length l.initial.widths) l.rows))
-
-abbrev pub decreases-loop-i : goal.decreases-loop-i
-decreases-loop-i l = length l.initial.widths - l.i

@@ -6,6 +6,3 @@ use Rattle.pads.proofs.find_pad.Given as goal
 
 abbrev pub invariant-loop-row : goal.invariant-loop-row
 invariant-loop-row l = (l.row ≤ length l.pads) × (l.found ≡ far l.strings l.name l.pads l.row)
-
-abbrev pub decreases-loop-row : goal.decreases-loop-row
-decreases-loop-row l = l.row

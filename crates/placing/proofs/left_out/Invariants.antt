@@ -7,6 +7,3 @@ use Rattle.placing.proofs.left_out.Given as goal
 
 abbrev pub invariant-loop-k : goal.invariant-loop-k
 invariant-loop-k l = (l.k ≤ l.n) × (some (λ i. not (placed_in l.marks i)) l.k ≡ some (λ i. not (placed_in l.marks i)) l.n)
-
-abbrev pub decreases-loop-k : goal.decreases-loop-k
-decreases-loop-k l = l.k

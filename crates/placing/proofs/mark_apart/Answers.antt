@@ -1,6 +1,5 @@
 use Rattle.placing.proofs.Seeking.{begin, begin_more, begun}
 use native.Mathlib.Omega.{arith}
-use Prim.Native.Nat.{◌-◌}
 use Rattle.placing.proofs.mark_apart.Goals as goal
 
 pub loop-i-init : goal.loop-i-init

@@ -7,6 +7,3 @@ use Rattle.pools.proofs.all_trits.Given as goal
 
 abbrev pub invariant-loop-i : goal.invariant-loop-i
 invariant-loop-i l = every is_trit (drop l.i l.bits) ≡ every is_trit l.bits
-
-abbrev pub decreases-loop-i : goal.decreases-loop-i
-decreases-loop-i l = length l.bits - l.i

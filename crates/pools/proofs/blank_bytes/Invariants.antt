@@ -6,6 +6,3 @@ use Rattle.pools.proofs.blank_bytes.Given as goal
 
 abbrev pub invariant-loop-i : goal.invariant-loop-i
 invariant-loop-i l = blank (drop l.i l.pool) ≡ blank (drop l.from l.pool)
-
-abbrev pub decreases-loop-i : goal.decreases-loop-i
-decreases-loop-i l = length l.pool - l.i

@@ -6,6 +6,3 @@ use Rattle.pools.proofs.blank_words.Given as goal
 
 abbrev pub invariant-loop-i : goal.invariant-loop-i
 invariant-loop-i l = blank (drop l.i l.table) ≡ blank (drop l.from l.table)
-
-abbrev pub decreases-loop-i : goal.decreases-loop-i
-decreases-loop-i l = length l.table - l.i

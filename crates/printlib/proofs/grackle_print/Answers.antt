@@ -3,4 +3,4 @@ use Rattle.printlib.specs.Filled.{printed_of}
 use Rattle.printlib.proofs.grackle_print.Goals as goal
 
 pub returns : goal.returns
-returns c = rw c.tell_print.ensures (ap printed_of c.print_text.ensures)
+returns c = rw c.tell.ensures (ap printed_of c.print_text.ensures)

@@ -9,6 +9,3 @@ use Rattle.quotes.proofs.put_bytes.Given as goal
 
 abbrev pub invariant-loop-i : goal.invariant-loop-i
 invariant-loop-i l = (length l.room ≡ length l.initial.room) × (l.end ≤ length l.pool) × Leaves l.initial.room l.n-2 (escaped (part l.from l.size l.pool)) l.room l.n (escaped (up_to l.i l.end l.pool))
-
-abbrev pub decreases-loop-i : goal.decreases-loop-i
-decreases-loop-i l = l.end - l.i

@@ -19,4 +19,4 @@ returns-then-work-lt132608 c = let a = c.args in
 
 pub returns : goal.returns
 returns c = let a = c.args in
-    all_long a.text.now a.rows.now a.strings.now a.bits.now a.work.now c.if-rows-lt26307.false c.if-strings-lt16384.false c.if-bits-lt393728.false c.if-work-lt132608.false c.read_past_rows.ensures
+    all_long a.text.now a.rows.now a.strings.now a.bits.now a.work.now c.if-rows-lt26307.false c.if-strings-lt16384.false c.if-bits-lt393728.false c.if-work-lt132608.false c.read_past.ensures

@@ -8,6 +8,3 @@ use Rattle.references.proofs.put_more_references.Given as goal
 
 abbrev pub invariant-loop-i : goal.invariant-loop-i
 invariant-loop-i l = (length l.room ≡ length l.initial.room) × Leaves l.initial.room l.n-2 (more_references (up_to l.i-2 l.end l.members)) l.room l.n (more_references (up_to l.i l.end l.members))
-
-abbrev pub decreases-loop-i : goal.decreases-loop-i
-decreases-loop-i l = l.end - l.i

@@ -10,11 +10,11 @@ loop-i-init c = (omega arith, let z : c.args.n - 0 ≡ c.args.n = omega arith in
 
 pub loop-i-preserved : goal.loop-i-preserved
 loop-i-preserved c = let a = c.args in let l = c.loop-i in
-    (omega arith, rows_on a.map.now a.cells.now a.runs.now a.n l.i c.loop-i-test.true (sym c.run_resolves.ensures ∙ c.if-run_resolves.true) ∙ l.invariant.1)
+    (omega arith, rows_on a.map.now a.cells.now a.runs.now a.n l.i c.loop-i-test.true (sym c.run_resolves.ensures ∙ c.if-not-run_resolves.false) ∙ l.invariant.1)
 
-pub returns-else-run_resolves : goal.returns-else-run_resolves
-returns-else-run_resolves c = let a = c.args in let l = c.loop-i in
-    rows_stop a.map.now a.cells.now a.runs.now a.n l.i c.loop-i-test.true (sym c.run_resolves.ensures ∙ c.if-run_resolves.false) ∙ l.invariant.1
+pub returns-then-not-run_resolves : goal.returns-then-not-run_resolves
+returns-then-not-run_resolves c = let a = c.args in let l = c.loop-i in
+    rows_stop a.map.now a.cells.now a.runs.now a.n l.i c.loop-i-test.true (sym c.run_resolves.ensures ∙ c.if-not-run_resolves.true) ∙ l.invariant.1
 
 pub returns : goal.returns
 returns c = let a = c.args in let l = c.loop-i in

@@ -6,6 +6,3 @@ use Rattle.rowruns.proofs.row_runs.Given as goal
 
 abbrev pub invariant-loop-i : goal.invariant-loop-i
 invariant-loop-i l = (l.i ≤ l.n) × (length l.runs ≡ 12288) × RunsLefts l.map l.n l.initial.runs l.i l.runs
-
-abbrev pub decreases-loop-i : goal.decreases-loop-i
-decreases-loop-i l = l.n - l.i

@@ -9,22 +9,22 @@ run_good-requires c =
     let l = c in
     let w = l in
     let s = w in
-    (w.clear_bytes.ensures ∙ ap zeros s.requires, sym l.in-Good.is ∙ l.check-listed.ensures)
+    (w.clear_bytes.ensures ∙ ap zeros s.requires, sym l.in-Ok.is ∙ l.check-listed.ensures)
 
-pub returns-in-Good : goal.returns-in-Good
-returns-in-Good c =
+pub returns-in-Ok : goal.returns-in-Ok
+returns-in-Ok c =
     let l = c in
     let w = l in
     let s = w in
     let a = s.args in
-    let g = good_list a.list.now _ _ (sym l.in-Good.is ∙ l.check-listed.ensures) in
+    let g = good_list a.list.now _ _ (sym l.in-Ok.is ∙ l.check-listed.ensures) in
     good_way a.list.now a.ins.now a.outs.now a.work.now s.requires (w.clear_bytes.ensures ∙ ap zeros s.requires) g.all c.run_good.ensures
 
-pub returns-in-Bad : goal.returns-in-Bad
-returns-in-Bad c =
+pub returns-in-Err : goal.returns-in-Err
+returns-in-Err c =
     let l = c in
     let w = l in
     let s = w in
     let a = s.args in
-    let e = bad_list a.list.now _ (sym l.in-Bad.is ∙ l.check-listed.ensures) in
+    let e = bad_list a.list.now _ (sym l.in-Err.is ∙ l.check-listed.ensures) in
     rw c.refused.ensures (bad_way a.list.now a.ins.now a.outs.now a.work.now s.requires w.clear_bytes.ensures e)

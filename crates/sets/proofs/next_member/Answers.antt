@@ -2,8 +2,5 @@ use mathlib.Core.Path.{sym}
 use Rattle.brackets.proofs.Shorts.{member_short}
 use Rattle.sets.proofs.next_member.Goals as goal
 
-pub returns-then-link : goal.returns-then-link
-returns-then-link c =
-    let a = c.args in
-    let l = c.link_with-link in
-    sym (member_short a.text.now a.reader.next.at l.result l.ensures c.if-link.true)
+pub returns-in-Some : goal.returns-in-Some
+returns-in-Some c = sym (member_short c.args.text.now c.args.reader.next.at _ (sym c.in-Some.ensures))

@@ -1,44 +1,54 @@
+use Rattle.std.proofs.Common.{rules, ◌≡◌, ◌+◌, ◌-◌, ◌<◌, Err, length}
 use Rattle.brackets.proofs.Shorts.{member_short}
 use Rattle.brackets.proofs.Measures.{member_refused, member_took, member_other, set_none, set_took, set_other, set_refused}
 use Rattle.brackets.specs.Parts.{set_from}
-use lib.ListN.{length}
-use native.Mathlib.Numerals.{add-one}
 use native.Mathlib.Omega.{arith}
 use mathlib.Core.Path.{sym, ◌∙◌, ap}
-use Prim.Native.Nat.{ℕ, ◌-◌}
+use Prim.Native.Nat.{ℕ, suc}
 use Rattle.sets.proofs.set_at.Goals as goal
 
-pub loop-left-init : goal.loop-left-init
-loop-left-init c = (omega arith, omega arith, ap (λ (n : ℕ). set_from n c.args.text.now 0 c.args.reader.next.at) (add-one (length c.args.text.now)))
+-- one turn less is left behind each member
+fewer : (n i : ℕ) → i < n + 1 → n + 1 - (i + 1) ≡ n + 1 - i - 1
+fewer n i h = omega arith
 
-pub loop-left-preserved-then-link : goal.loop-left-preserved-then-link
-loop-left-preserved-then-link c = let l = c.link_with-link in
-    let p = c in
-    let a = p.args in
-    let told = member_short a.text.now p.loop-left.next.next.at l.result l.ensures c.if-link.true in
-    (omega arith, omega arith, set_took p.loop-left.left a.text.now p.loop-left.count p.loop-left.next.next.at c.loop-left-test.true _ _ told ∙ p.loop-left.invariant.2)
+pub loop-count-init : goal.loop-count-init
+loop-count-init c =
+    let all : length c.args.text.now + 1 - 0 ≡ suc (length c.args.text.now) = omega arith in
+    ap (λ (n : ℕ). set_from n c.args.text.now 0 c.args.reader.next.at) all
+
+pub loop-count-preserved-in-Some : goal.loop-count-preserved-in-Some
+loop-count-preserved-in-Some c =
+    let text = c.args.text.now in
+    let l = c.loop-count in
+    let told = member_short text l.next.next.at _ (sym c.in-Some.ensures) in
+    rw (fewer (length text) l.count c.loop-count-test.true)
+    (set_took (length text + 1 - l.count) text l.count l.next.next.at (omega arith) _ _ told ∙ l.invariant)
 
 pub returns-else-is_sort : goal.returns-else-is_sort
-returns-else-is_sort c = let m = c in
-    let p = m in
-    let a = p.args in
-    let told = member_other a.text.now p.loop-left.next.next.at _ _ (sym m.inside_with.ensures ∙ m.in-Took.is)
-    (sym c.is_sort.ensures ∙ c.if-is_sort.false) in
-    c.set_end.ensures ∙ set_other p.loop-left.left a.text.now p.loop-left.count p.loop-left.next.next.at m.loop-left-test.true _ _ told ∙ p.loop-left.invariant.2
+returns-else-is_sort c =
+    let text = c.args.text.now in
+    let l = c.loop-count in
+    let told = member_other text l.next.next.at _ _ (sym c.inside_with.ensures ∙ c.in_ok-token.was) (sym c.is_sort.ensures ∙ c.if-is_sort.false) in
+    c.set_end.ensures ∙ set_other (length text + 1 - l.count) text l.count l.next.next.at (omega arith) _ _ told ∙ l.invariant
 
-pub returns-in-Refused : goal.returns-in-Refused
-returns-in-Refused c = let p = c in
-    let a = p.args in
-    let told = member_refused a.text.now p.loop-left.next.next.at _ (sym c.inside_with.ensures ∙ c.in-Refused.is) in
-    set_refused p.loop-left.left a.text.now p.loop-left.count p.loop-left.next.next.at c.loop-left-test.true _ told ∙ p.loop-left.invariant.2
+pub returns-in_err-token : goal.returns-in_err-token
+returns-in_err-token c =
+    let text = c.args.text.now in
+    let l = c.loop-count in
+    let told = member_refused text l.next.next.at _ (sym c.inside_with.ensures ∙ c.in_err-token.was) in
+    let e : c.from_residual.result ≡ Err c.in_err-token.field-0.0 = search rules in
+    e ∙ set_refused (length text + 1 - l.count) text l.count l.next.next.at (omega arith) _ told ∙ l.invariant
 
-pub loop-left-preserved : goal.loop-left-preserved
-loop-left-preserved c = let m = c in
-    let p = m in
-    let a = p.args in
-    let told = member_took a.text.now p.loop-left.next.next.at _ _ (sym m.inside_with.ensures ∙ m.in-Took.is)
-    (sym c.is_sort.ensures ∙ c.if-is_sort.true) in
-    (omega arith, omega arith, set_took p.loop-left.left a.text.now p.loop-left.count p.loop-left.next.next.at m.loop-left-test.true _ _ told ∙ p.loop-left.invariant.2)
+pub loop-count-preserved : goal.loop-count-preserved
+loop-count-preserved c =
+    let text = c.args.text.now in
+    let l = c.loop-count in
+    let told = member_took text l.next.next.at _ _ (sym c.inside_with.ensures ∙ c.in_ok-token.was) (sym c.is_sort.ensures ∙ c.if-is_sort.true) in
+    rw (fewer (length text) l.count c.loop-count-test.true)
+    (set_took (length text + 1 - l.count) text l.count l.next.next.at (omega arith) _ _ told ∙ l.invariant)
 
 pub returns : goal.returns
-returns c = let p = c in let a = p.args in set_none p.loop-left.left a.text.now p.loop-left.count p.loop-left.next.next.at c.loop-left-test.false ∙ p.loop-left.invariant.2
+returns c =
+    let text = c.args.text.now in
+    let l = c.loop-count in
+    set_none (length text + 1 - l.count) text l.count l.next.next.at (omega arith) ∙ l.invariant

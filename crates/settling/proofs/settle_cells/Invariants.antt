@@ -6,6 +6,3 @@ use Rattle.settling.proofs.settle_cells.Given as goal
 
 abbrev pub invariant-loop-i : goal.invariant-loop-i
 invariant-loop-i l = (l.i ≤ l.n) × (length l.cells ≡ length l.initial.cells) × (length l.strings ≡ length l.initial.strings) × Lefts l.text l.n l.first l.initial.cells l.initial.strings l.i l.cells l.strings l.so
-
-abbrev pub decreases-loop-i : goal.decreases-loop-i
-decreases-loop-i l = l.n - l.i

@@ -6,6 +6,3 @@ use Rattle.settling.proofs.settle_ios.Given as goal
 
 abbrev pub invariant-loop-i : goal.invariant-loop-i
 invariant-loop-i l = (l.i ≤ l.n) × (length l.ios ≡ length l.initial.ios) × (length l.strings ≡ length l.initial.strings) × Lefts l.text l.n l.first l.initial.ios l.initial.strings l.i l.ios l.strings l.s
-
-abbrev pub decreases-loop-i : goal.decreases-loop-i
-decreases-loop-i l = l.n - l.i

@@ -6,6 +6,3 @@ use Rattle.settling.proofs.settle_metas.Given as goal
 
 abbrev pub invariant-loop-i : goal.invariant-loop-i
 invariant-loop-i l = (l.i ≤ l.n) × (length l.metas ≡ length l.initial.metas) × (length l.strings ≡ length l.initial.strings) × Lefts l.text l.n l.initial.metas l.initial.strings l.i l.metas l.strings l.so
-
-abbrev pub decreases-loop-i : goal.decreases-loop-i
-decreases-loop-i l = l.n - l.i

@@ -1,8 +1,5 @@
-use Rattle.std.proofs.Common.{◌≤◌, ◌-◌, length}
+use Rattle.std.proofs.Common.{◌≤◌, length}
 use Rattle.worked.proofs.put_rounds.Given as goal
 
 abbrev pub invariant-loop-round : goal.invariant-loop-round
-invariant-loop-round l = (l.k ≤ length l.room) × (l.round ≤ l.times)
-
-abbrev pub decreases-loop-round : goal.decreases-loop-round
-decreases-loop-round l = l.times - l.round
+invariant-loop-round l = l.k ≤ length l.room

@@ -28,15 +28,36 @@ returns-then-spot c =
     let s = c.spot_with-spot in
     spot_done a.text.now _ a.runs.now a.trits.now a.so l.next.next.at l.left s.result s.ensures l.invariant.2 c.if-spot.true
 
-pub add_piece-added-requires : goal.add_piece-added-requires
-add_piece-added-requires c =
+pub add_piece-requires : goal.add_piece-requires
+add_piece-requires c =
     let a = c.args in
     let l = c.loop-left in
     let s = c.spot_with-spot in
-    spot_fits a.text.now _ a.runs.now a.trits.now a.so l.next.next.at l.left s.result s.ensures l.invariant.2 c.if-spot-2.true c.loop-left-test.true c.requires.2
+    spot_fits a.text.now _ a.runs.now a.trits.now a.so l.next.next.at l.left s.result s.ensures l.invariant.2 c.if-spot-2.true c.loop-left-test.true c.requires.1
+
+pub shape_of-runs-in_err-more : goal.shape_of-runs-in_err-more
+shape_of-runs-in_err-more c = omega (arith, c.loop-left.invariant.0, c.add_piece.auto)
+
+pub shape_of-trits-in_err-more : goal.shape_of-trits-in_err-more
+shape_of-trits-in_err-more c = omega (arith, c.loop-left.invariant.1)
+
+pub returns-in_err-more : goal.returns-in_err-more
+returns-in_err-more c =
+    let a = c.args in
+    let l = c.loop-left in
+    let s = c.spot_with-spot in
+    rw c.from_residual.ensures (spot_full a.text.now _ a.runs.now a.trits.now a.so l.next.next.at l.left s.result s.ensures l.invariant.2 c.if-spot-2.true c.loop-left-test.true (rw c.in_err-more.was at c.add_piece.ensures))
+
+pub loop-left-preserved-then-spot-2 : goal.loop-left-preserved-then-spot-2
+loop-left-preserved-then-spot-2 c =
+    let a = c.args in
+    let l = c.loop-left in
+    let s = c.spot_with-spot in
+    let g = c.add_piece in
+    (omega (arith, l.invariant.0, g.auto), l.invariant.1, spot_more a.text.now _ a.runs.now a.trits.now a.so l.next.next.at l.left s.result s.ensures l.invariant.2 c.if-spot-2.true c.loop-left-test.true (rw c.in_ok-more.was at g.ensures) c.or_none-bare.ensures)
 
 pub shape_of-runs-in_default : goal.shape_of-runs-in_default
-shape_of-runs-in_default c = omega (arith, c.loop-left.invariant.0, c.add_piece-added.auto)
+shape_of-runs-in_default c = omega (arith, c.loop-left.invariant.0)
 
 pub shape_of-trits-in_default : goal.shape_of-trits-in_default
 shape_of-trits-in_default c = omega (arith, c.loop-left.invariant.1)
@@ -45,61 +66,40 @@ pub returns-in_default : goal.returns-in_default
 returns-in_default c =
     let a = c.args in
     let l = c.loop-left in
-    let s = c.spot_with-spot in
-    spot_full a.text.now _ a.runs.now a.trits.now a.so l.next.next.at l.left s.result s.ensures l.invariant.2 c.if-spot-2.true c.loop-left-test.true (rw c.in_default.is at c.add_piece-added.ensures)
-
-pub loop-left-preserved-then-spot-2 : goal.loop-left-preserved-then-spot-2
-loop-left-preserved-then-spot-2 c =
-    let a = c.args in
-    let l = c.loop-left in
-    let s = c.spot_with-spot in
-    let g = c.add_piece-added in
-    (omega (arith, l.invariant.0, g.auto), l.invariant.1, spot_more a.text.now _ a.runs.now a.trits.now a.so l.next.next.at l.left s.result s.ensures l.invariant.2 c.if-spot-2.true c.loop-left-test.true (rw c.in-Laid.is at g.ensures) c.or_none-bare.ensures)
-
-pub shape_of-runs-in_default-step : goal.shape_of-runs-in_default-step
-shape_of-runs-in_default-step c = omega (arith, c.loop-left.invariant.0)
-
-pub shape_of-trits-in_default-step : goal.shape_of-trits-in_default-step
-shape_of-trits-in_default-step c = omega (arith, c.loop-left.invariant.1)
-
-pub returns-in_default-step : goal.returns-in_default-step
-returns-in_default-step c =
-    let a = c.args in
-    let l = c.loop-left in
-    let e = sym c.inside_with-step.ensures ∙ c.in_default-step.is in
+    let e = sym c.inside_with-step.ensures ∙ c.in_default.is in
     walks_done a.text.now _ a.runs.now a.trits.now a.so (walks_as (parts_refused a.text.now l.next.next.at l.left _ e) l.invariant.2)
 
-pub add_token-added-requires : goal.add_token-added-requires
-add_token-added-requires c =
+pub add_token-requires : goal.add_token-requires
+add_token-requires c =
     let a = c.args in
     let l = c.loop-left in
-    let e = sym c.inside_with-step.ensures ∙ c.in-Took.is in
+    let e = sym c.inside_with-step.ensures ∙ c.in-Ok.is in
     let is = sym c.is_part.ensures ∙ c.if-is_part.true in
-    let f = walks_fits a.text.now _ a.runs.now a.trits.now a.so _ _ (walks_as (parts_took a.text.now l.next.next.at _ _ e l.left c.loop-left-test.true is) l.invariant.2) c.requires.2 in
-    (c.requires.0, f.0, f.1)
+    let f = walks_fits a.text.now _ a.runs.now a.trits.now a.so _ _ (walks_as (parts_took a.text.now l.next.next.at _ _ e l.left c.loop-left-test.true is) l.invariant.2) c.requires.1 in
+    (f.0, f.1)
 
-pub shape_of-runs-in_default-added : goal.shape_of-runs-in_default-added
-shape_of-runs-in_default-added c = omega (arith, c.loop-left.invariant.0, c.add_token-added.auto)
+pub shape_of-runs-in_err-more-2 : goal.shape_of-runs-in_err-more-2
+shape_of-runs-in_err-more-2 c = omega (arith, c.loop-left.invariant.0, c.add_token.auto)
 
-pub shape_of-trits-in_default-added : goal.shape_of-trits-in_default-added
-shape_of-trits-in_default-added c = omega (arith, c.loop-left.invariant.1, c.add_token-added.auto)
+pub shape_of-trits-in_err-more-2 : goal.shape_of-trits-in_err-more-2
+shape_of-trits-in_err-more-2 c = omega (arith, c.loop-left.invariant.1, c.add_token.auto)
 
-pub returns-in_default-added : goal.returns-in_default-added
-returns-in_default-added c =
+pub returns-in_err-more-2 : goal.returns-in_err-more-2
+returns-in_err-more-2 c =
     let a = c.args in
     let l = c.loop-left in
-    let e = sym c.inside_with-step.ensures ∙ c.in-Took.is in
+    let e = sym c.inside_with-step.ensures ∙ c.in-Ok.is in
     let is = sym c.is_part.ensures ∙ c.if-is_part.true in
-    walks_full a.text.now _ a.runs.now a.trits.now a.so _ _ (walks_as (parts_took a.text.now l.next.next.at _ _ e l.left c.loop-left-test.true is) l.invariant.2) (rw c.in_default-added.is at c.add_token-added.ensures)
+    rw c.from_residual-in_err-more-2.ensures (walks_full a.text.now _ a.runs.now a.trits.now a.so _ _ (walks_as (parts_took a.text.now l.next.next.at _ _ e l.left c.loop-left-test.true is) l.invariant.2) (rw c.in_err-more-2.was at c.add_token.ensures))
 
 pub loop-left-preserved : goal.loop-left-preserved
 loop-left-preserved c =
     let a = c.args in
     let l = c.loop-left in
-    let e = sym c.inside_with-step.ensures ∙ c.in-Took.is in
+    let e = sym c.inside_with-step.ensures ∙ c.in-Ok.is in
     let is = sym c.is_part.ensures ∙ c.if-is_part.true in
-    let g = c.add_token-added in
-    (omega (arith, l.invariant.0, g.auto), omega (arith, l.invariant.1, g.auto), walks_more a.text.now _ a.runs.now a.trits.now a.so _ _ (walks_as (parts_took a.text.now l.next.next.at _ _ e l.left c.loop-left-test.true is) l.invariant.2) (rw c.in-Laid-added.is at g.ensures) c.or_bare-bare.ensures)
+    let g = c.add_token in
+    (omega (arith, l.invariant.0, g.auto), omega (arith, l.invariant.1, g.auto), walks_more a.text.now _ a.runs.now a.trits.now a.so _ _ (walks_as (parts_took a.text.now l.next.next.at _ _ e l.left c.loop-left-test.true is) l.invariant.2) (rw c.in_ok-more-2.was at g.ensures) c.or_bare-bare.ensures)
 
 pub shape_of-runs-else-is_part : goal.shape_of-runs-else-is_part
 shape_of-runs-else-is_part c = omega (arith, c.loop-left.invariant.0)
@@ -111,7 +111,7 @@ pub returns-else-is_part : goal.returns-else-is_part
 returns-else-is_part c =
     let a = c.args in
     let l = c.loop-left in
-    let e = sym c.inside_with-step.ensures ∙ c.in-Took.is in
+    let e = sym c.inside_with-step.ensures ∙ c.in-Ok.is in
     let not = sym c.is_part.ensures ∙ c.if-is_part.false in
     walks_done a.text.now _ a.runs.now a.trits.now a.so (walks_as (parts_other a.text.now l.next.next.at _ _ e l.left not) l.invariant.2)
 

@@ -5,15 +5,15 @@ add_constant-requires c =
     let s = c in
     let a = s.args in
     let e = c.in-Constant.is in
-    (s.requires.0, rw e at s.requires.1, rw e at s.requires.2)
+    (rw e at s.requires.0, rw e at s.requires.1)
 
 pub add_piece-requires : goal.add_piece-requires
 add_piece-requires c =
     let s = c in
     let a = s.args in
     let e = c.in-Cell.is in
-    let i = rw e at s.requires.1 in
-    (i.0, i.1, record { trits = a.trits.now; opened = rw e at s.requires.2 })
+    let i = rw e at s.requires.0 in
+    (i.0, i.1, record { trits = a.trits.now; opened = rw e at s.requires.1 })
 
 pub returns-in-Constant : goal.returns-in-Constant
 returns-in-Constant c =

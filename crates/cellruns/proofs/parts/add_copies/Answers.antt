@@ -8,7 +8,7 @@ pub returns-then-base_width-eq0 : goal.returns-then-base_width-eq0
 returns-then-base_width-eq0 c =
     let s = c in
     let a = s.args in
-    copies_nothing a.text.now a.base a.count s.requires.1 (sym c.base_width.ensures ∙ c.if-base_width-eq0.true)
+    copies_nothing a.text.now a.base a.count s.requires.0 (sym c.base_width.ensures ∙ c.if-base_width-eq0.true)
 
 pub loop-left-init : goal.loop-left-init
 loop-left-init c =
@@ -16,35 +16,35 @@ loop-left-init c =
     let a = s.args in
     (refl, refl, turned_none a.first a.runs.now a.trits.now a.so (copies a.count (base_bits a.text.now a.base)))
 
-pub add_base-added-requires : goal.add_base-added-requires
-add_base-added-requires c =
+pub add_base-requires : goal.add_base-requires
+add_base-requires c =
     let s = c in
     let a = s.args in
     let l = c.loop-left in
-    (s.requires.0, s.requires.1, copies_room a.text.now a.base a.count l.left l.invariant.2 c.loop-left-test.true s.requires.1 s.requires.2)
+    (s.requires.0, copies_room a.text.now a.base a.count l.left l.invariant.2 c.loop-left-test.true s.requires.0 s.requires.1)
 
-pub shape_of-runs-in_default : goal.shape_of-runs-in_default
-shape_of-runs-in_default c =
-    omega (arith, c.loop-left.invariant.0, c.add_base-added.auto)
+pub shape_of-runs-in_err-used : goal.shape_of-runs-in_err-used
+shape_of-runs-in_err-used c =
+    omega (arith, c.loop-left.invariant.0, c.add_base.auto)
 
-pub shape_of-trits-in_default : goal.shape_of-trits-in_default
-shape_of-trits-in_default c =
-    omega (arith, c.loop-left.invariant.1, c.add_base-added.auto)
+pub shape_of-trits-in_err-used : goal.shape_of-trits-in_err-used
+shape_of-trits-in_err-used c =
+    omega (arith, c.loop-left.invariant.1, c.add_base.auto)
 
-pub returns-in_default : goal.returns-in_default
-returns-in_default c =
+pub returns-in_err-used : goal.returns-in_err-used
+returns-in_err-used c =
     let s = c in
     let a = s.args in
     let l = c.loop-left in
-    copies_stop a.text.now a.base a.count l.left l.invariant.2 c.loop-left-test.true (rw c.in_default.is at c.add_base-added.ensures)
+    rw c.from_residual.ensures (copies_stop a.text.now a.base a.count l.left l.invariant.2 c.loop-left-test.true (rw c.in_err-used.was at c.add_base.ensures))
 
 pub loop-left-preserved : goal.loop-left-preserved
 loop-left-preserved c =
     let s = c in
     let a = s.args in
     let l = c.loop-left in
-    let g = c.add_base-added in
-    (omega (arith, l.invariant.0, g.auto), omega (arith, l.invariant.1, g.auto), copies_turn a.text.now a.base a.count l.left l.invariant.2 c.loop-left-test.true (rw c.in-Laid.is at g.ensures))
+    let g = c.add_base in
+    (omega (arith, l.invariant.0, g.auto), omega (arith, l.invariant.1, g.auto), copies_turn a.text.now a.base a.count l.left l.invariant.2 c.loop-left-test.true (rw c.in_ok-used.was at g.ensures))
 
 pub returns : goal.returns
 returns c =

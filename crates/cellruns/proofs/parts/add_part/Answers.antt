@@ -5,14 +5,14 @@ add_base-requires c =
     let s = c in
     let a = s.args in
     let e = c.in-One.is in
-    (s.requires.0, rw e at s.requires.1, rw e at s.requires.2)
+    (rw e at s.requires.0, rw e at s.requires.1)
 
 pub add_copies-requires : goal.add_copies-requires
 add_copies-requires c =
     let s = c in
     let a = s.args in
     let e = c.in-Repeated.is in
-    (s.requires.0, rw e at s.requires.1, rw e at s.requires.2)
+    (rw e at s.requires.0, rw e at s.requires.1)
 
 pub returns-in-One : goal.returns-in-One
 returns-in-One c =

@@ -14,17 +14,17 @@ loop-i-init c = let a = c.args in record { row = omega arith; s_room = c.require
 pub cell_good-requires : goal.cell_good-requires
 cell_good-requires c = let a = c.args in let v = c.loop-i.invariant in (c.requires.0, rw (rest_all a.cells.now (c.loop-i.i * 9), length-drop) (omega (arith, c.requires, c.loop-i-test.true)), c.requires.2, c.requires.3, v.s_room, v.r_room, v.b_room)
 
-pub returns-in-Wrong : goal.returns-in-Wrong
-returns-in-Wrong c = let a = c.args in let p = c.loop-i in let u = rw (rest_all a.cells.now (p.i * 9)) at (sym c.cell_good.ensures.0) in (cells_off (widths_in a.n a.cells.now) a.bits.now a.runs.now a.metas a.cells.now p.i p.s p.r p.b p.d p.o a.n c.loop-i-test.true (u ∙ c.in-Wrong.is) ∙ p.invariant.is, omega arith)
+pub returns-in_err-out : goal.returns-in_err-out
+returns-in_err-out c = let a = c.args in let p = c.loop-i in let u = rw (rest_all a.cells.now (p.i * 9)) at (sym c.cell_good.ensures.0) in (rw c.from_residual.ensures (cells_off (widths_in a.n a.cells.now) a.bits.now a.runs.now a.metas a.cells.now p.i p.s p.r p.b p.d p.o a.n c.loop-i-test.true (u ∙ c.in_err-out.was) ∙ p.invariant.is), rw c.from_residual.ensures (omega arith))
 
 pub overflow_add-o : goal.overflow_add-o
-overflow_add-o c = let l : out_of c.cell_good.result < 17592186044417 = c.cell_good.ensures.1 in let k = rw c.in-Good.is at l in omega (arith, k, c.loop-i.invariant.o_room, c.loop-i-test.true, c.requires)
+overflow_add-o c = let l : out_of c.cell_good.result < 17592186044417 = c.cell_good.ensures.1 in let k = rw c.in_ok-out.was at l in omega (arith, k, c.loop-i.invariant.o_room, c.loop-i-test.true, c.requires)
 
 pub loop-i-preserved : goal.loop-i-preserved
-loop-i-preserved c = let a = c.args in let p = c.loop-i in let u = rw (rest_all a.cells.now (p.i * 9)) at (sym c.cell_good.ensures.0) in let l : out_of c.cell_good.result < 17592186044417 = c.cell_good.ensures.1 in let k : trits_of c.cell_good.result ≤ 262656 = c.cell_good.ensures.2 in telling_on p.invariant c.loop-i-test.true _ _ (rw c.in-Good.is at l) (rw c.in-Good.is at k) (u ∙ c.in-Good.is) _ _ _ _ _ c.word_of-s.ensures.0 c.word_of.ensures.0 c.word_of-in-Good.ensures.0 c.word_of-in-Good-2.ensures.0 c.word_of-d.ensures.0 c.word_of-d.ensures.1
+loop-i-preserved c = let a = c.args in let p = c.loop-i in let u = rw (rest_all a.cells.now (p.i * 9)) at (sym c.cell_good.ensures.0) in let l : out_of c.cell_good.result < 17592186044417 = c.cell_good.ensures.1 in let k : trits_of c.cell_good.result ≤ 262656 = c.cell_good.ensures.2 in telling_on p.invariant c.loop-i-test.true _ _ (rw c.in_ok-out.was at l) (rw c.in_ok-out.was at k) (u ∙ c.in_ok-out.was) _ _ _ _ _ c.word_of-s.ensures.0 c.word_of.ensures.0 c.word_of-in-loop-i.ensures.0 c.word_of-in-loop-i-2.ensures.0 c.word_of-d.ensures.0 c.word_of-d.ensures.1
 
 pub returns-then-blank_words : goal.returns-then-blank_words
-returns-then-blank_words c = let a = c.args in let p = c.loop-i in ((rw (sym c.blank_words.ensures ∙ c.if-blank_words.true) at (cells_end (widths_in a.n a.cells.now) a.bits.now a.runs.now a.metas a.cells.now p.i p.s p.r p.b p.d p.o a.n c.loop-i-test.false)) ∙ p.invariant.is, p.invariant.r_room)
+returns-then-blank_words c = let a = c.args in let p = c.loop-i in let e : p.i ≡ a.n = omega arith in ((rw (sym (rw (← e) at c.blank_words.ensures) ∙ c.if-blank_words.true) at (cells_end (widths_in a.n a.cells.now) a.bits.now a.runs.now a.metas a.cells.now p.i p.s p.r p.b p.d p.o a.n c.loop-i-test.false)) ∙ p.invariant.is, p.invariant.r_room)
 
 pub returns : goal.returns
-returns c = let a = c.args in let p = c.loop-i in ((rw (sym c.blank_words.ensures ∙ c.if-blank_words.false) at (cells_end (widths_in a.n a.cells.now) a.bits.now a.runs.now a.metas a.cells.now p.i p.s p.r p.b p.d p.o a.n c.loop-i-test.false)) ∙ p.invariant.is, omega arith)
+returns c = let a = c.args in let p = c.loop-i in let e : p.i ≡ a.n = omega arith in ((rw (sym (rw (← e) at c.blank_words.ensures) ∙ c.if-blank_words.false) at (cells_end (widths_in a.n a.cells.now) a.bits.now a.runs.now a.metas a.cells.now p.i p.s p.r p.b p.d p.o a.n c.loop-i-test.false)) ∙ p.invariant.is, omega arith)

@@ -4,7 +4,7 @@ use native.Mathlib.Omega.{arith}
 use Rattle.checkcells.proofs.cells.judge.Goals as goal
 
 pub returns-then-fits : goal.returns-then-fits
-returns-then-fits c = let a = c.args in let f : first_of a.operands < 17592186044417 = c.requires.0 in let e : end_of a.operands ≤ 262656 = c.requires.1 in (rw (c.in-Of.is, ← c.fits.ensures, c.if-fits.true, c.out_width.ensures.0), omega (arith, c.out_width.ensures.1, rw c.in-Of.is at f), rw c.in-Of.is at e)
+returns-then-fits c = let a = c.args in let f : first_of a.operands < 17592186044417 = c.requires.0 in let e : end_of a.operands ≤ 262656 = c.requires.1 in (rw (c.in_ok-x.was, ← c.fits.ensures, c.if-fits.true, c.out_width.ensures.0), omega (arith, c.out_width.ensures.1, rw c.in_ok-x.was at f), rw c.in_ok-x.was at e)
 
-pub returns-else-fits : goal.returns-else-fits
-returns-else-fits c = (rw (c.in-Of.is, ← c.fits.ensures, c.if-fits.false), omega arith, omega arith)
+pub returns : goal.returns
+returns c = (rw (c.in_ok-x.was, ← c.fits.ensures, c.if-fits.false), omega arith, omega arith)

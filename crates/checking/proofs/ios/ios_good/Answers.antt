@@ -13,13 +13,13 @@ pub io_good-requires : goal.io_good-requires
 io_good-requires c = let a = c.args in (rw (rest_all a.ios.now (c.loop-i.i * 3), length-drop) (omega (arith, c.requires, c.loop-i-test.true)), c.loop-i.invariant.s_room)
 
 pub loop-i-preserved : goal.loop-i-preserved
-loop-i-preserved c = let a = c.args in walking_on c.loop-i.invariant c.loop-i-test.true (rw (rest_all a.ios.now (c.loop-i.i * 3)) at (sym c.io_good.ensures ∙ c.if-io_good.true)) _ c.word_of-s.ensures.0
+loop-i-preserved c = let a = c.args in walking_on c.loop-i.invariant c.loop-i-test.true (rw (rest_all a.ios.now (c.loop-i.i * 3)) at (sym c.io_good.ensures ∙ c.if-not-io_good.false)) _ c.word_of-s.ensures.0
 
-pub returns-else-io_good : goal.returns-else-io_good
-returns-else-io_good c = let a = c.args in let p = c.loop-i in (ios_off a.ios.now p.i p.s a.n c.loop-i-test.true (rw (rest_all a.ios.now (p.i * 3)) at (sym c.io_good.ensures ∙ c.if-io_good.false)) ∙ p.invariant.is, omega arith)
+pub returns-then-not-io_good : goal.returns-then-not-io_good
+returns-then-not-io_good c = let a = c.args in let p = c.loop-i in (ios_off a.ios.now p.i p.s a.n c.loop-i-test.true (rw (rest_all a.ios.now (p.i * 3)) at (sym c.io_good.ensures ∙ c.if-not-io_good.true)) ∙ p.invariant.is, omega arith)
 
 pub returns-then-blank_words : goal.returns-then-blank_words
-returns-then-blank_words c = let a = c.args in let p = c.loop-i in ((rw (sym c.blank_words.ensures ∙ c.if-blank_words.true) at (ios_end a.ios.now p.i p.s a.n c.loop-i-test.false)) ∙ p.invariant.is, p.invariant.s_room)
+returns-then-blank_words c = let a = c.args in let p = c.loop-i in let e : p.i ≡ a.n = omega arith in ((rw (sym (rw (← e) at c.blank_words.ensures) ∙ c.if-blank_words.true) at (ios_end a.ios.now p.i p.s a.n c.loop-i-test.false)) ∙ p.invariant.is, p.invariant.s_room)
 
 pub returns : goal.returns
-returns c = let a = c.args in let p = c.loop-i in ((rw (sym c.blank_words.ensures ∙ c.if-blank_words.false) at (ios_end a.ios.now p.i p.s a.n c.loop-i-test.false)) ∙ p.invariant.is, omega arith)
+returns c = let a = c.args in let p = c.loop-i in let e : p.i ≡ a.n = omega arith in ((rw (sym (rw (← e) at c.blank_words.ensures) ∙ c.if-blank_words.false) at (ios_end a.ios.now p.i p.s a.n c.loop-i-test.false)) ∙ p.invariant.is, omega arith)

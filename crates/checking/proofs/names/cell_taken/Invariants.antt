@@ -7,6 +7,3 @@ use Rattle.checking.proofs.names.cell_taken.Given as goal
 
 abbrev pub invariant-loop-i : goal.invariant-loop-i
 invariant-loop-i l = (l.i ≤ l.n) × (taken l.name (cell_names_in l.strings l.kind (l.n - l.i) (drop (l.i * 9) l.cells)) ≡ taken l.name (cell_names_in l.strings l.kind (l.n - l.from) (drop (l.from * 9) l.cells)))
-
-abbrev pub decreases-loop-i : goal.decreases-loop-i
-decreases-loop-i l = l.n - l.i

@@ -9,6 +9,3 @@ use Rattle.checking.proofs.names.cells_distinct.Given as goal
 
 abbrev pub invariant-loop-i : goal.invariant-loop-i
 invariant-loop-i l = (l.i ≤ l.n) × Marked l.kind l.seen (cell_names_in l.strings l.kind (l.n - l.i) (drop (l.i * 9) l.cells)) × (distinct (cell_names_in l.strings l.kind (l.n - l.i) (drop (l.i * 9) l.cells)) ≡ true)
-
-abbrev pub decreases-loop-i : goal.decreases-loop-i
-decreases-loop-i l = l.i

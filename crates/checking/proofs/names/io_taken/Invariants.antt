@@ -7,6 +7,3 @@ use Rattle.checking.proofs.names.io_taken.Given as goal
 
 abbrev pub invariant-loop-i : goal.invariant-loop-i
 invariant-loop-i l = (l.i ≤ l.n) × (taken l.name (io_names_in l.strings (l.n - l.i) (drop (l.i * 3) l.ios)) ≡ taken l.name (io_names_in l.strings (l.n - l.from) (drop (l.from * 3) l.ios)))
-
-abbrev pub decreases-loop-i : goal.decreases-loop-i
-decreases-loop-i l = l.n - l.i

@@ -9,6 +9,3 @@ use Rattle.checking.proofs.names.ios_marked.Given as goal
 
 abbrev pub invariant-loop-i : goal.invariant-loop-i
 invariant-loop-i l = (l.i ≤ l.n) × Marked 255 l.seen (io_names_in l.strings (l.n - l.i) (drop (l.i * 3) l.ios)) × (distinct (io_names_in l.strings (l.n - l.i) (drop (l.i * 3) l.ios)) ≡ true)
-
-abbrev pub decreases-loop-i : goal.decreases-loop-i
-decreases-loop-i l = l.i

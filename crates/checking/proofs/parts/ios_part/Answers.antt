@@ -12,16 +12,16 @@ unfolding ios_part
 returns-then-n-gt64 c = (rw (lt-leb _ 64 c.if-n-gt64.true), omega arith)
 
 pub ios_distinct-requires : goal.ios_distinct-requires
-ios_distinct-requires c = let a = c.args in let w = sym c.ios_good.ensures.0 ∙ c.in-At.is in ios_named a.strings.now a.n a.ios.now a.s _ c.requires.1 (omega (arith, c.requires.0, c.if-n-gt64.false)) w
+ios_distinct-requires c = let a = c.args in let w = sym c.ios_good.ensures.0 ∙ c.in_ok-t.was in ios_named a.strings.now a.n a.ios.now a.s _ c.requires.1 (omega (arith, c.requires.0, c.if-n-gt64.false)) w
 
 pub returns-then-ios_distinct : goal.returns-then-ios_distinct
 unfolding ios_part
-returns-then-ios_distinct c = let l : upto_of c.ios_good.result ≤ 16384 = c.ios_good.ensures.1 in let w = sym c.ios_good.ensures.0 ∙ c.in-At.is in (rw (le-leb _ 64 c.if-n-gt64.false, w, ← c.ios_distinct.ensures, c.if-ios_distinct.true), rw c.in-At.is at l)
+returns-then-ios_distinct c = let l : upto_of c.ios_good.result ≤ 16384 = c.ios_good.ensures.1 in let w = sym c.ios_good.ensures.0 ∙ c.in_ok-t.was in (rw (le-leb _ 64 c.if-n-gt64.false, w, ← c.ios_distinct.ensures, c.if-ios_distinct.true), rw c.in_ok-t.was at l)
 
-pub returns-in-Wrong : goal.returns-in-Wrong
+pub returns-in_err-t : goal.returns-in_err-t
 unfolding ios_part
-returns-in-Wrong c = let w = sym c.ios_good.ensures.0 ∙ c.in-Wrong.is in (rw (le-leb _ 64 c.if-n-gt64.false, w), omega arith)
+returns-in_err-t c = let w = sym c.ios_good.ensures.0 ∙ c.in_err-t.was in (rw (le-leb _ 64 c.if-n-gt64.false, w, c.from_residual.ensures), rw c.from_residual.ensures (omega arith))
 
-pub returns-else-ios_distinct : goal.returns-else-ios_distinct
+pub returns : goal.returns
 unfolding ios_part
-returns-else-ios_distinct c = let w = sym c.ios_good.ensures.0 ∙ c.in-At.is in (rw (le-leb _ 64 c.if-n-gt64.false, w, ← c.ios_distinct.ensures, c.if-ios_distinct.false), omega arith)
+returns c = let w = sym c.ios_good.ensures.0 ∙ c.in_ok-t.was in (rw (le-leb _ 64 c.if-n-gt64.false, w, ← c.ios_distinct.ensures, c.if-ios_distinct.false), omega arith)

@@ -1,4 +1,3 @@
-use mathlib.Core.Bool.{true, false}
 use Prim.Native.Nat.{◌*◌}
 use lib.ListN.{length-drop}
 use Prim.Native.Nat.{◌-◌}
@@ -14,13 +13,13 @@ pub meta_good-requires : goal.meta_good-requires
 meta_good-requires c = let a = c.args in let v = c.loop-i.invariant in (omega (arith, c.requires), rw (rest_all a.metas.now (c.loop-i.i * 16), length-drop) (omega (arith, c.requires)), c.requires.1, c.requires.2, v.s_room, v.m_room, v.b_room)
 
 pub loop-i-preserved : goal.loop-i-preserved
-loop-i-preserved c = let a = c.args in walking_on c.loop-i.invariant c.loop-i-test.true (rw (rest_all a.metas.now (c.loop-i.i * 16)) at (sym c.meta_good.ensures ∙ c.if-meta_good.true)) _ _ _ _ c.word_of.ensures.0 c.word_of-then-meta_good.ensures.0 c.word_of-m.ensures.0 c.word_of-b.ensures.0
+loop-i-preserved c = let a = c.args in walking_on c.loop-i.invariant c.loop-i-test.true (rw (rest_all a.metas.now (c.loop-i.i * 16)) at (sym c.meta_good.ensures ∙ c.if-not-meta_good.false)) _ _ _ _ c.word_of.ensures.0 c.word_of-in-loop-i.ensures.0 c.word_of-m.ensures.0 c.word_of-b.ensures.0
 
-pub returns-else-meta_good : goal.returns-else-meta_good
-returns-else-meta_good c = let a = c.args in let p = c.loop-i in (walk_off a.members.now a.bits.now a.metas.now p.i p.s p.m p.b a.n c.loop-i-test.true (rw (rest_all a.metas.now (p.i * 16)) at (sym c.meta_good.ensures ∙ c.if-meta_good.false)) ∙ p.invariant.is, omega arith)
+pub returns-then-not-meta_good : goal.returns-then-not-meta_good
+returns-then-not-meta_good c = let a = c.args in let p = c.loop-i in (walk_off a.members.now a.bits.now a.metas.now p.i p.s p.m p.b a.n c.loop-i-test.true (rw (rest_all a.metas.now (p.i * 16)) at (sym c.meta_good.ensures ∙ c.if-not-meta_good.true)) ∙ p.invariant.is, omega arith)
 
 pub returns-then-blank_words : goal.returns-then-blank_words
-returns-then-blank_words c = let a = c.args in let p = c.loop-i in ((rw (sym c.blank_words.ensures ∙ c.if-blank_words.true) at (walk_end a.members.now a.bits.now a.metas.now p.i p.s p.m p.b a.n c.loop-i-test.false)) ∙ p.invariant.is, p.invariant.s_room)
+returns-then-blank_words c = let a = c.args in let p = c.loop-i in let e : p.i ≡ a.n = omega arith in ((rw (sym (rw (← e) at c.blank_words.ensures) ∙ c.if-blank_words.true) at (walk_end a.members.now a.bits.now a.metas.now p.i p.s p.m p.b a.n c.loop-i-test.false)) ∙ p.invariant.is, p.invariant.s_room)
 
 pub returns : goal.returns
-returns c = let a = c.args in let p = c.loop-i in ((rw (sym c.blank_words.ensures ∙ c.if-blank_words.false) at (walk_end a.members.now a.bits.now a.metas.now p.i p.s p.m p.b a.n c.loop-i-test.false)) ∙ p.invariant.is, omega arith)
+returns c = let a = c.args in let p = c.loop-i in let e : p.i ≡ a.n = omega arith in ((rw (sym (rw (← e) at c.blank_words.ensures) ∙ c.if-blank_words.false) at (walk_end a.members.now a.bits.now a.metas.now p.i p.s p.m p.b a.n c.loop-i-test.false)) ∙ p.invariant.is, omega arith)

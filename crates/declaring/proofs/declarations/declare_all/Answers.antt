@@ -1,46 +1,24 @@
-use mathlib.Core.Path.{refl}
+use Rattle.std.specs.Prelude.{Ok}
+use Rattle.std.proofs.lemmas.Result.{err_from_is_err_and}
+use mathlib.Core.Path.{refl, ap, ◌∙◌}
 use Rattle.declaring.proofs.Declaring.{go_start, go_some, go_out, go_stopped, go_ended, go_more}
 use borrow.Author.Rules.{rules}
 use Rattle.declaring.proofs.declarations.declare_all.Goals as goal
 
 pub loop-left-init : goal.loop-left-init
-loop-left-init c = let p = c in let a = p.args in (refl, refl, refl, refl, go_start a.text.now a.rows.now a.bits.now a.work.now a.seen.now _ c.no_tally-n.ensures p.requires.2 p.requires.3)
+loop-left-init c = let p = c in let a = p.args in (refl, refl, refl, refl, go_start a.text.now a.rows.now a.bits.now a.work.now a.seen.now _ c.no_tally-n.ensures p.requires.1 p.requires.2)
 
 pub take_next-requires : goal.take_next-requires
-take_next-requires c = let p = c in (p.requires.0, p.requires.1, go_some c.loop-left.invariant.4)
+take_next-requires c = let p = c in (p.requires.0, go_some c.loop-left.invariant.4)
 
-pub shape_of-rows-in-Stopped : goal.shape_of-rows-in-Stopped
-shape_of-rows-in-Stopped c = search (rules, c.loop-left.invariant.0)
+pub returns-in_err-m : goal.returns-in_err-m
+returns-in_err-m c = let q = err_from_is_err_and c.from_residual.result c.from_residual.ensures.1 in rw (q.1, q.2) (go_stopped c.loop-left.invariant.4 c.loop-left-test.true c.take_next.ensures _ c.in_err-m.was)
 
-pub shape_of-bits-in-Stopped : goal.shape_of-bits-in-Stopped
-shape_of-bits-in-Stopped c = search (rules, c.loop-left.invariant.1)
-
-pub shape_of-work-in-Stopped : goal.shape_of-work-in-Stopped
-shape_of-work-in-Stopped c = search (rules, c.loop-left.invariant.2)
-
-pub shape_of-seen-in-Stopped : goal.shape_of-seen-in-Stopped
-shape_of-seen-in-Stopped c = search (rules, c.loop-left.invariant.3)
-
-pub returns-in-Stopped : goal.returns-in-Stopped
-returns-in-Stopped c = go_stopped c.loop-left.invariant.4 c.loop-left-test.true c.take_next.ensures _ c.in-Stopped.is
-
-pub shape_of-rows-in-Ended : goal.shape_of-rows-in-Ended
-shape_of-rows-in-Ended c = search (rules, c.loop-left.invariant.0)
-
-pub shape_of-bits-in-Ended : goal.shape_of-bits-in-Ended
-shape_of-bits-in-Ended c = search (rules, c.loop-left.invariant.1)
-
-pub shape_of-work-in-Ended : goal.shape_of-work-in-Ended
-shape_of-work-in-Ended c = search (rules, c.loop-left.invariant.2)
-
-pub shape_of-seen-in-Ended : goal.shape_of-seen-in-Ended
-shape_of-seen-in-Ended c = search (rules, c.loop-left.invariant.3)
-
-pub returns-in-Ended : goal.returns-in-Ended
-returns-in-Ended c = go_ended c.loop-left.invariant.4 c.loop-left-test.true c.take_next.ensures c.in-Ended.is
+pub returns-in_default : goal.returns-in_default
+returns-in_default c = go_ended c.loop-left.invariant.4 c.loop-left-test.true c.take_next.ensures (c.in_ok-m.was ∙ ap Ok c.in_default.is)
 
 pub loop-left-preserved : goal.loop-left-preserved
-loop-left-preserved c = let l = c.loop-left in (search (rules, l.invariant.0), search (rules, l.invariant.1), search (rules, l.invariant.2), search (rules, l.invariant.3), go_more l.invariant.4 c.loop-left-test.true c.take_next.ensures _ _ c.in-Went.is)
+loop-left-preserved c = let l = c.loop-left in (search (rules, l.invariant.0), search (rules, l.invariant.1), search (rules, l.invariant.2), search (rules, l.invariant.3), go_more l.invariant.4 c.loop-left-test.true c.take_next.ensures _ _ (c.in_ok-m.was ∙ ap Ok c.in-Some.is))
 
 pub shape_of-rows : goal.shape_of-rows
 shape_of-rows c = c.loop-left.invariant.0

@@ -1,7 +1,6 @@
 use Rattle.evaluating.proofs.Going.{gave_none, gave_room, gave_more, gave_all}
 use Rattle.cells.specs.Held.{held_runs, held_bits}
 use native.Mathlib.Omega.{arith}
-use Prim.Native.Nat.{◌-◌}
 use Rattle.evaluating.proofs.settle.give_outputs.Goals as goal
 
 pub loop-i-init : goal.loop-i-init
@@ -9,12 +8,6 @@ loop-i-init c = let a = c.args in gave_none a.cells.now (held_runs a.runs.now a.
 
 pub give_row-at-requires : goal.give_row-at-requires
 give_row-at-requires c = (c.requires.0, omega (arith, c.loop-i-test.true, c.requires.1), gave_room c.loop-i.invariant c.loop-i-test.true c.requires.2)
-
-pub overflow_add-i : goal.overflow_add-i
-overflow_add-i c = omega (arith, c.loop-i-test.true, c.requires.1)
-
-pub loop-i-smaller : goal.loop-i-smaller
-loop-i-smaller c = omega arith
 
 pub loop-i-preserved : goal.loop-i-preserved
 loop-i-preserved c = gave_more c.loop-i.invariant c.loop-i-test.true c.give_row-at.ensures

@@ -3,7 +3,6 @@ use Rattle.valuing.specs.Row.{RowSound}
 use Rattle.cells.specs.Held.{held_runs}
 use mathlib.Core.Path.{sym, subst, ◌∙◌}
 use native.Mathlib.Omega.{arith}
-use Prim.Native.Nat.{◌-◌}
 use Rattle.evaluating.proofs.settle.work_out.Goals as goal
 
 pub loop-i-init : goal.loop-i-init

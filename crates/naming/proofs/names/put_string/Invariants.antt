@@ -1,4 +1,4 @@
-use Prim.Native.Nat.{◌-◌, ◌≤◌}
+use Prim.Native.Nat.{◌≤◌}
 use mathlib.Core.Path.{◌≡◌}
 use mathlib.Core.List.{◌++◌}
 use lib.ListN.{length}
@@ -9,6 +9,3 @@ use Rattle.naming.proofs.names.put_string.Given as goal
 
 abbrev pub invariant-loop-i : goal.invariant-loop-i
 invariant-loop-i l = (length l.room ≡ length l.initial.room) × (l.end ≤ length l.pool) × Leaves l.initial.room l.n-2 (λ k. part l.from l.size l.pool ++ k) l.room l.n (λ k. up_to l.i l.end l.pool ++ k)
-
-abbrev pub decreases-loop-i : goal.decreases-loop-i
-decreases-loop-i l = l.end - l.i

@@ -1,6 +1,6 @@
 use Rattle.placing.proofs.Seeking.{seek_start, seek_word, seek_found, seek_on, seek_end}
 use native.Mathlib.Omega.{arith}
-use Prim.Native.Nat.{◌-◌, ◌*◌, ◌+◌}
+use Prim.Native.Nat.{◌*◌, ◌+◌}
 use Rattle.placing.proofs.search.open_read.Goals as goal
 
 pub overflow_cast-a : goal.overflow_cast-a
@@ -12,8 +12,8 @@ overflow_cast-b c = omega (arith, c.shared_slice_known-5-1.given (c.args.row * 9
 pub overflow_cast-c : goal.overflow_cast-c
 overflow_cast-c c = omega (arith, c.shared_slice_known-6-1.given (c.args.row * 9 + 8))
 
-pub overflow_cast-k : goal.overflow_cast-k
-overflow_cast-k c = omega (arith, c.shared_slice_known-7-1.given (c.args.row * 9 + 5))
+pub overflow_cast-from : goal.overflow_cast-from
+overflow_cast-from c = omega (arith, c.shared_slice_known-7-1.given (c.args.row * 9 + 5))
 
 pub overflow_add-end : goal.overflow_add-end
 overflow_add-end c = let s = c in omega (arith, s.requires.0.runs_there s.args.row s.requires.2)

@@ -1,5 +1,5 @@
 use lib.ListN.{length-set}
-use Prim.Native.Nat.{◌+◌, ◌-◌}
+use Prim.Native.Nat.{◌+◌}
 use native.Mathlib.Omega.{arith}
 use mathlib.Core.Path.{◌≡◌, refl}
 use Rattle.recording.proofs.Bits.{adc_on, adc_end}
@@ -54,11 +54,13 @@ loop-i-preserved c =
     let e : c.put_carry-carry.result ≡ l.next + 5 = omega arith in
     rw e (left_bit (adc_on s.args.a.now s.args.b.now l.i l.next (omega arith) l.carry) l.invariant (puts_then p.1 refl q.1) refl p.0)
 
-pub bounds-outs-i-2 : goal.bounds-outs-i-2
-bounds-outs-i-2 c =
+pub bounds-outs-bits : goal.bounds-outs-bits
+bounds-outs-bits c =
     let s = c in
     let l = c.loop-i in
-    let r = step_room (adc_end s.args.a.now s.args.b.now l.i l.next (omega arith) l.carry) l.invariant in
+    let e : l.i ≡ c.shared-bits.result = omega arith in
+    let inv = rw e at l.invariant in
+    let r = step_room (adc_end s.args.a.now s.args.b.now c.shared-bits.result l.next (omega arith) l.carry) inv in
     omega (arith, r.2)
 
 pub overflow_sub-result : goal.overflow_sub-result
@@ -74,4 +76,6 @@ pub returns : goal.returns
 returns c =
     let s = c in
     let l = c.loop-i in
-    left_none refl (left_bit (adc_end s.args.a.now s.args.b.now l.i l.next (omega arith) l.carry) l.invariant (puts_nothing _ _) (omega arith) refl) refl
+    let e : l.i ≡ c.shared-bits.result = omega arith in
+    let inv = rw e at l.invariant in
+    left_none refl (left_bit (adc_end s.args.a.now s.args.b.now c.shared-bits.result l.next (omega arith) l.carry) inv (puts_nothing _ _) (omega arith) refl) refl

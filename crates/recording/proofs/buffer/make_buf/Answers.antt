@@ -1,7 +1,5 @@
-use Prim.Native.Nat.{◌-◌}
 use native.Mathlib.Omega.{arith}
 use mathlib.Core.Path.{refl}
-use mathlib.Core.List.{[]}
 use Rattle.recording.proofs.Bits.{buf_on, buf_end}
 use Rattle.recording.proofs.Left.{left_whole, step_room, puts_nothing, left_bit, left_none}
 use Rattle.recording.proofs.buffer.make_buf.Goals as goal

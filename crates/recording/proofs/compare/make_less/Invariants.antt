@@ -1,4 +1,3 @@
-use Prim.Native.Nat.{◌-◌}
 use lib.ListN.{drop}
 use Rattle.recording.specs.ByKind.{less_made}
 use Rattle.recording.proofs.Left.{Left}
@@ -6,6 +5,3 @@ use Rattle.recording.proofs.compare.make_less.Given as goal
 
 abbrev pub invariant-loop-i : goal.invariant-loop-i
 invariant-loop-i l = Left (less_made l.kind l.k l.a l.b 0) l.k l.initial.list l.outs (less_made l.kind l.next (drop l.i l.a) (drop l.i l.b) l.carry) l.next 0 l.list l.outs
-
-abbrev pub decreases-loop-i : goal.decreases-loop-i
-decreases-loop-i l = l.low - l.i

@@ -1,5 +1,4 @@
 use mathlib.Core.Path.{refl, sym, ◌∙◌}
-use Prim.Native.Nat.{◌-◌}
 use native.Mathlib.Omega.{arith}
 use Rattle.running.proofs.Laws.{trits_on, trits_stop, trits_end}
 use Rattle.running.proofs.lent.all_trits.Goals as goal

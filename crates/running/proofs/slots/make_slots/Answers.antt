@@ -1,4 +1,3 @@
-use Prim.Native.Nat.{◌-◌}
 use native.Mathlib.Omega.{arith}
 use Rattle.running.proofs.Laws.{made_none, made_more, made_all}
 use Rattle.running.proofs.slots.make_slots.Goals as goal

@@ -6,6 +6,3 @@ use Rattle.scanning.proofs.scan.odd_ahead.Given as goal
 
 abbrev pub invariant-loop-k : goal.invariant-loop-k
 invariant-loop-k l = (l.k ≤ 64) × (l.count ≤ l.k) × (l.count ≡ 0 → Skips l.text [] l.i (l.i + l.k))
-
-abbrev pub decreases-loop-k : goal.decreases-loop-k
-decreases-loop-k l = 64 - l.k

@@ -1,6 +1,6 @@
 use lib.Seq.{sets}
 use mathlib.Core.List.{List}
-use Prim.Native.Nat.{ℕ, ◌-◌}
+use Prim.Native.Nat.{ℕ}
 use native.Mathlib.Omega.{arith}
 use mathlib.Core.Path.{◌∙◌, ap, sym}
 use Rattle.ground.specs.Lists.{up_from}

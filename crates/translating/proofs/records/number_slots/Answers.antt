@@ -1,6 +1,5 @@
 use native.Mathlib.Omega.{arith}
 use mathlib.Core.Path.{refl}
-use Prim.Native.Nat.{◌-◌}
 use Rattle.translating.proofs.Listing.{numbers_none, numbers_more, numbers_all}
 use Rattle.translating.proofs.records.number_slots.Goals as goal
 

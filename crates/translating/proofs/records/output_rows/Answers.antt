@@ -4,7 +4,7 @@ use Rattle.placing.specs.Placing.{output_from}
 use Rattle.valuing.specs.Row.{cell_of}
 use Rattle.translating.proofs.Counting.{length_outputs}
 use native.Mathlib.Omega.{arith}
-use Prim.Native.Nat.{◌+◌, ◌-◌, ◌*◌}
+use Prim.Native.Nat.{◌+◌, ◌*◌}
 use lib.ListN.{drop}
 use Rattle.cells.specs.Held.{held_runs, held_bits}
 use Rattle.translating.specs.Translation.{output_records}

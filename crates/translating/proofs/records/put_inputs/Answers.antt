@@ -1,5 +1,4 @@
 use native.Mathlib.Omega.{arith}
-use Prim.Native.Nat.{◌-◌}
 use Rattle.translating.proofs.Listing.{left_from, left_on, left_none, inputs_on, inputs_end, inputs_start}
 use Rattle.translating.proofs.records.put_inputs.Goals as goal
 

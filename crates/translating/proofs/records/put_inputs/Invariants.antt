@@ -6,6 +6,3 @@ use Rattle.translating.proofs.records.put_inputs.Given as goal
 
 abbrev pub invariant-loop-i : goal.invariant-loop-i
 invariant-loop-i l = (l.i ≤ l.count) × Left l.initial.list 3 (input_records (up_from 0 l.count)) l.list (3 + l.i) (input_records (up_from l.i (l.count - l.i)))
-
-abbrev pub decreases-loop-i : goal.decreases-loop-i
-decreases-loop-i l = l.count - l.i

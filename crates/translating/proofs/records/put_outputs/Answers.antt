@@ -1,5 +1,4 @@
 use native.Mathlib.Omega.{arith}
-use Prim.Native.Nat.{◌-◌}
 use Rattle.translating.proofs.Listing.{left_on, left_none, outputs_on, outputs_end, outputs_begin}
 use Rattle.translating.proofs.records.put_outputs.Goals as goal
 

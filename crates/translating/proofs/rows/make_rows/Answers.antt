@@ -1,6 +1,5 @@
 use native.Mathlib.Omega.{arith}
 use mathlib.Core.Path.{◌∙◌}
-use Prim.Native.Nat.{◌-◌}
 use Rattle.cells.specs.Held.{held_runs}
 use Rattle.translating.proofs.Rowing.{rowed_none, rowed_room, rowed_more, rowed_all, rowed_slots}
 use Rattle.translating.proofs.rows.make_rows.Goals as goal

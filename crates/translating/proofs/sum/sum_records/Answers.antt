@@ -1,5 +1,4 @@
 use native.Mathlib.Omega.{arith}
-use Prim.Native.Nat.{◌-◌}
 use Rattle.cells.specs.Held.{held_runs}
 use Rattle.assigning.proofs.Laws.{total_start, total_more, total_end}
 use Rattle.translating.specs.InTables.{row_sum}

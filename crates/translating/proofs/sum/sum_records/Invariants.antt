@@ -8,6 +8,3 @@ use Rattle.translating.proofs.sum.sum_records.Given as goal
 
 abbrev pub invariant-loop-i : goal.invariant-loop-i
 invariant-loop-i l = (l.i ≤ l.n) × (l.sum + rows_total (row_sum (held_runs l.runs l.trits)) (l.n - l.i) (drop (l.i * 9) l.cells) ≡ 3 + rows_total (row_sum (held_runs l.runs l.trits)) l.n l.cells) × (l.sum ≤ 3 + l.i * 17179869188)
-
-abbrev pub decreases-loop-i : goal.decreases-loop-i
-decreases-loop-i l = l.n - l.i

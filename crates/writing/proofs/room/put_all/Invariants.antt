@@ -7,6 +7,3 @@ use Rattle.writing.proofs.room.put_all.Given as goal
 
 abbrev pub invariant-loop-i : goal.invariant-loop-i
 invariant-loop-i l = (length l.room ≡ length l.initial.room) × (l.i ≤ length l.word) × Leaves l.initial.room l.n-2 (λ k. l.word ++ k) l.room l.n (λ k. drop l.i l.word ++ k)
-
-abbrev pub decreases-loop-i : goal.decreases-loop-i
-decreases-loop-i l = length l.word - l.i

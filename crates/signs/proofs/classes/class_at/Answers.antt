@@ -1,6 +1,0 @@
-use native.Mathlib.Omega.{arith}
-use Rattle.signs.proofs.Bytes.{class_rule}
-use Rattle.signs.proofs.classes.class_at.Goals as goal
-
-pub returns : goal.returns
-returns c = cc (class_rule c.args.b (omega (arith, c.ranges.b.fits)))
