@@ -22,6 +22,7 @@ pub struct Gave {
     pub place: u64,
 }
 
+// As `tell` of printlib, but into the record that C is given here, whose field has its own name.
 fn tell(r: Result<usize, Refusal>) -> Gave
     ensures { result ≡ told r }
 {

@@ -120,8 +120,7 @@ pub(crate) fn lay_within(
     let mut used = so;
     let mut bare = false;
     let mut next = reader;
-    let mut left = text.len() + 1;
-    while 0 < left {
+    for _done in 0..text.len() + 1 {
         let spot = spot_with(t, text, next);
         if spot.closed {
             return Some((used, bare));
@@ -142,7 +141,6 @@ pub(crate) fn lay_within(
             next = Reader {
                 next: Place { at: spot.end },
             };
-            left -= 1;
             continue;
         }
         let step = next.inside_with(t, text);
@@ -154,7 +152,6 @@ pub(crate) fn lay_within(
             bare = or_bare(bare, token);
             used = more;
             next = behind;
-            left -= 1;
         } else {
             return Some((used, bare));
         }

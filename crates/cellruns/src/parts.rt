@@ -76,10 +76,8 @@ fn add_copies(
         return Some(so);
     }
     let mut used = so;
-    let mut left = count;
-    while 0 < left {
+    for _done in 0..count {
         used = add_base(t, text, base, runs, trits, first, used)?;
-        left -= 1;
     }
     Some(used)
 }

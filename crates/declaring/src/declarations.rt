@@ -88,14 +88,12 @@ fn declare_all(
     let mut reader = Reader {
         next: Place { at: 0 },
     };
-    let mut left = text.len() + 1;
-    while 0 < left {
+    for _done in 0..text.len() + 1 {
         let Some((m, r)) = take_next(t, text, reader, rows, bits, work, seen, n)? else {
             return Ok(n);
         };
         n = m;
         reader = r;
-        left -= 1;
     }
     Ok(n)
 }

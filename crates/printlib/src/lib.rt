@@ -20,6 +20,7 @@ pub struct Wrote {
     pub place: u64,
 }
 
+// As `tell` of benchlib, but into the record that C is given here, whose field has its own name.
 fn tell(r: Result<usize, Refusal>) -> Wrote
     ensures { result ≡ told r }
 {
