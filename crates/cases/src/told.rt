@@ -20,9 +20,18 @@ pub(crate) fn tell_unwritten<W: Write>(to: &mut W, g: Refusal, room: &[u8]) -> i
     tell_unless(to, all(room, 7), b" (a refused room is changed)")
 }
 
-// A byte as two digits.
+fn digit(x: u8) -> u8
+    requires { x < 16 }
+{
+    match x {
+        0..=9 => b'0' + x,
+        _ => b'a' + (x - 10),
+    }
+}
+
+// A byte as two digits, in one write: standard output keeps none back, and `{b:02x}` writes a leading zero by itself.
 pub(crate) fn tell_hex<W: Write>(to: &mut W, b: u8) -> io::Result<()> {
-    write!(to, "{b:02x}")
+    to.write_all(&[digit(b / 16), digit(b % 16)])
 }
 
 // A word modulo 4,294,967,291: there is no need to divide, since it holds the modulus at most once.

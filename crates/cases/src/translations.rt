@@ -11,13 +11,13 @@ use std::io;
 use std::io::Write;
 
 pub(crate) fn tell_line<W: Write>(to: &mut W, line: &[u8]) -> io::Result<()> {
-    let Some((asked, said)) = split_once(line, b'|') else {
+    let Some((_, said)) = split_once(line, b'|') else {
         return Ok(());
     };
-    if asked.starts_with(b"l") {
+    if line.starts_with(b"l") {
         return tell_list(to, said);
     }
-    match split_once(asked, b' ') {
+    match split_once(line, b' ') {
         Some((_, letters)) => tell_run(to, letters, said),
         None => Ok(()),
     }

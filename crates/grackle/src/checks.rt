@@ -35,7 +35,7 @@ pub(crate) fn check_files<R: Env + Files + Input, O: Write, E: Write>(
     let mut bad: usize = 0;
     for i in 2..count {
         if !check_file(rt, out, err, i)? {
-            bad = bad.saturating_add(1);
+            bad = bad.saturating_add(1).min(1000000);
         }
     }
     tell_bad(err, bad)

@@ -1,5 +1,5 @@
 // The lines of a listing: a record in hex, and the records of a list told one after the other, read through the record reader. It promises
-// the bytes of each line; no contract can say what is written. Load list and record reader stand below it, telling and the
+// the bytes of each line; no contract can say what is written. Load list and record reader stand below it, answering and the
 // listing above.
 #![tactic(auto)]
 

@@ -73,6 +73,12 @@ pub record Gave (list work : List ℕ) (n : ℕ) (old : List ℕ) (k at : ℕ) (
 pub gave_none : (list work : List ℕ) (n : ℕ) (old : List ℕ) {count : ℕ} → count ≤ length old → count ≡ length (outputs_in (records_in n list) work) → Gave list work n old n count old
 gave_none list work n old h e = record { left = refl; count = e; room = h; long = refl }
 
+-- outputs come of records
+some_left : (k : ℕ) (list work : List ℕ) → 0 < length (outputs_in (records_in k list) work) → 0 < k
+unfolding records_in outputs_in
+some_left zero list work h = h
+some_left (suc k) list work h = omega arith
+
 -- no outputs come of no records
 none_left : (k : ℕ) (list work : List ℕ) → k ≤ 0 → length (outputs_in (records_in k list) work) ≤ 0
 unfolding records_in outputs_in
@@ -84,6 +90,9 @@ nothing_left [] h = refl
 nothing_left (x ∷ xs) h = absurd (omega arith)
 
 module _ {list work old outs : List ℕ} {n k at : ℕ} (g : Gave list work n old k at outs) where
+  pub gave_left : 0 < at → 0 < k
+  gave_left h = some_left k list work (omega (arith, g.count))
+
   pub gave_all : at ≤ 0 → outs ≡ sets old 0 (outputs_in (records_in n list) work)
   gave_all h =
       let e : outputs_in (records_in k list) work ≡ [] = nothing_left (outputs_in (records_in k list) work) (omega (arith, g.count)) in

@@ -15,7 +15,7 @@ const CLASS: [u8; 256] = [
 ];
 
 // The class of each byte, to lend to the functions that ask for it.
-#[derive(Drop)]
+#[derive(Clone, Copy)]
 pub struct Classes {
     of: [u8; 256],
     ghost right: { of ≡ table },
@@ -30,6 +30,21 @@ fn wide(b: u8) -> usize
 impl Classes {
     pub fn new() -> Self {
         Classes { of: CLASS }
+    }
+
+    // Of an array that is shown to be the table.
+    pub fn of_array(of: [u8; 256]) -> Self
+        requires { of ≡ table }
+    {
+        Classes { of }
+    }
+
+    // The table as an array, for callers who look at it themselves.
+    pub fn to_array(self) -> [u8; 256]
+        ensures { result ≡ table }
+    {
+        let entries = self.of;
+        entries
     }
 
     pub fn class_at(&self, b: u8) -> u8

@@ -45,7 +45,8 @@ fn put_letters(bits: &[u8], at: usize, n: usize, room: &mut [u8]) -> usize
     ensures { result ≤ length room.old }
 {
     let told = n.min(room.len());
-    let mut left = bits.iter().skip(at);
+    // By a part of the slice: the iterator's `skip` walks to the place bit by bit.
+    let mut left = bits.get(at..).unwrap_or(&[]).iter();
     for letter in room[..told].iter_mut() {
         *letter = left.next().map_or(b'0', |bit| letter_of(*bit));
     }

@@ -1,5 +1,5 @@
 // Words of lent tables: a word as a place, a word at a place and 0 past the end, the lesser of two places, the end of rows. It promises each
-// by one equation, whatever is lent. The ground stands below it; whatever reads tables, above.
+// by one equation, whatever is lent. Nothing stands below it, whatever reads tables above.
 #![tactic(auto)]
 
 ghost use Rattle.std.specs.Prelude.{◌≡◌, ◌+◌, ◌-◌, ◌<◌, min, get_or};

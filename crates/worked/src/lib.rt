@@ -8,6 +8,13 @@ ghost use Rattle.std.specs.Prelude.{◌<◌, ◌≤◌, length};
 use finding::{find, hex};
 use itoa::Buffer;
 
+// Where a room and a line stand, for programs that fill a room from a line.
+#[derive(Clone, Copy)]
+pub struct Spot {
+    pub n: usize,
+    pub at: usize,
+}
+
 // The place past a byte; a backslash takes the byte behind it along.
 fn past(line: &[u8], at: usize) -> usize
     requires { at < length line.now }
