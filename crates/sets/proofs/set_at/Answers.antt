@@ -1,7 +1,7 @@
 use Rattle.std.proofs.Common.{rules, ◌≡◌, ◌+◌, ◌-◌, ◌<◌, Err, length}
 use Rattle.brackets.proofs.Shorts.{member_short}
 use Rattle.brackets.proofs.Measures.{member_refused, member_took, member_other, set_none, set_took, set_other, set_refused}
-use Rattle.brackets.specs.Parts.{set_from}
+use Rattle.brackets.specs.Parts.{set_from, set_end}
 use native.Mathlib.Omega.{arith}
 use mathlib.Core.Path.{sym, ◌∙◌, ap}
 use Prim.Native.Nat.{ℕ, suc}
@@ -29,7 +29,7 @@ returns-else-is_sort c =
     let text = c.args.text.now in
     let l = c.loop-count in
     let told = member_other text l.next.next.at _ _ (sym c.inside_with.ensures ∙ c.in_ok-token.was) (sym c.is_sort.ensures ∙ c.if-is_sort.false) in
-    c.set_end.ensures ∙ set_other (length text + 1 - l.count) text l.count l.next.next.at (omega arith) _ _ told ∙ l.invariant
+    c.set_end.ensures ∙ ap (λ (n : ℕ). set_end n c.in_ok-token.token c.in_ok-token.r) (omega arith) ∙ set_other (length text + 1 - l.count) text l.count l.next.next.at (omega arith) _ _ told ∙ l.invariant
 
 pub returns-in_err-token : goal.returns-in_err-token
 returns-in_err-token c =

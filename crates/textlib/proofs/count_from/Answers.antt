@@ -13,7 +13,7 @@ returns-in_err-moved_by c =
 pub returns-in-None : goal.returns-in-None
 returns-in-None c =
     let told = sym (c.moved_by.ensures ∙ ap moved_by c.next_with.ensures) ∙ (c.in_ok-moved_by.was ∙ ap Ok c.in-None.is) in
-    count_ended (length c.args.text.now + 1 - c.loop-tokens.tokens) c.args.text.now c.loop-tokens.tokens c.loop-tokens.at (omega arith) told ∙ c.loop-tokens.invariant
+    ap counted (omega arith) ∙ count_ended (length c.args.text.now + 1 - c.loop-tokens.tokens) c.args.text.now c.loop-tokens.tokens c.loop-tokens.at (omega arith) told ∙ c.loop-tokens.invariant
 
 pub loop-tokens-preserved : goal.loop-tokens-preserved
 loop-tokens-preserved c =
